@@ -1,0 +1,5 @@
+pub mod Kind
+pub mod Sums
+pub mod Orders
+pub mod Strict
+pub mod Graded

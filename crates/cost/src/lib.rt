@@ -1,0 +1,14 @@
+//! Charges, what they cost, and how costs are added, compared and shown.
+pub mod charge;
+pub mod graded;
+pub mod kind;
+pub mod strict;
+
+pub use charge::Charge;
+pub use charge::Shown;
+pub use charge::Total;
+pub use graded::Graded;
+pub use graded::GradedKind;
+pub use kind::CostKind;
+pub use strict::Strict;
+pub use strict::StrictKind;
