@@ -25,6 +25,12 @@ abbrev pub addedTo : {C : Type 0} → (Charge → Option C) → (C → C → C) 
 addedTo costOf add c [] = Some c
 addedTo costOf add c (h ∷ hs) = andThen (costOf h) (λ d. addedTo costOf add (add c d) hs)
 
+-- c is the sum of at most 2,000,000 charges: the charges of a log from the front, as far as one likes.
+pub record SumOfCharges {C : Type 0} (costOf : Charge → Option C) (add : C → C → C) (zero c : C) : Type 0 where
+  pub charges : List Charge
+  pub few : length charges ≤ MOST
+  pub comes : addedTo costOf add zero charges ≡ Some c
+
 -- Both numbers are below 2^42; below 2^64.
 abbrev pub Low : Shown → Type 0
 Low s = (s .breaches < 2 ^ 42) × (s .penalty < 2 ^ 42)
@@ -53,19 +59,17 @@ pub record Kind : Type 1 where
   pub add-less : (a b c : Cost) → Less a b → Less (add a c) (add b c)
   pub shown-zero : shown zero ≡ shownZero
   -- every sum of charges along a log is carried in 64 bits and shown in numbers below 2^42
-  pub low : (cs : List Charge) (c : Cost) → length cs ≤ MOST → addedTo costOf add zero cs ≡ Some c → Fits (carried c) × Low (shown c)
-  -- costs that are carried alike are the same
-  pub exact : (a b : Cost) → carried a ≡ carried b → a ≡ b
+  pub low : (c : Cost) → SumOfCharges costOf add zero c → Fits (carried c) × Low (shown c)
+  -- it is carried exactly: sums that are carried alike are the same
+  pub exact : (a b : Cost) → SumOfCharges costOf add zero a → SumOfCharges costOf add zero b → carried a ≡ carried b → a ≡ b
 
 -- The sum of charges that are added to c.
 abbrev pub sum : (K : Kind) → K .Cost → List Charge → Option (K .Cost)
 sum K c cs = addedTo (K .costOf) (K .add) c cs
 
--- c is the sum of some charges of a log, from the front and as far as one likes.
-pub record Arises (K : Kind) (c : K .Cost) : Type 0 where
-  pub charges : List Charge
-  pub few : length charges ≤ MOST
-  pub comes : sum K (K .zero) charges ≡ Some c
+-- The cost c is the sum of at most 2,000,000 charges.
+abbrev pub Arises : (K : Kind) → K .Cost → Type 0
+Arises K c = SumOfCharges (K .costOf) (K .add) (K .zero) c
 
 -- The total t carries the cost c, which is such a sum.
 pub record Carries (K : Kind) (t : Total) (c : K .Cost) : Type 0 where

@@ -1,3 +1,4 @@
+pub mod Charges
 pub mod Kind
 pub mod Sums
 pub mod Orders

@@ -1,17 +1,15 @@
 -- The kind Strict.
 use mathlib.Core.Path.{_≡_, refl, ap}
 use mathlib.Core.Bool.{Bool, true, false, cond}
-use mathlib.Core.List.{List}
 use Prim.Native.Nat.{ℕ, _+_, _≤_, _<_}
 use native.Mathlib.Omega.{arith}
 use lib.Dec.{eqb}
-use lib.ListN.{length}
 use Rattle.std.specs.declared.option.Option.{Option}
 use Rattle.std.specs.declared.option.Option.the-variants.{Some, None}
 use Rattle.cost.specs.declared.charge.Charge.{Charge}
 use Rattle.cost.specs.declared.charge.Total.{Total}
 use Rattle.cost.specs.declared.charge.Shown.{Shown}
-use Rattle.cost.specs.Kind.{Kind, addedTo, MOST, Fits, Low}
+use Rattle.cost.specs.Kind.{Kind, SumOfCharges, Fits, Low}
 use Rattle.cost.specs.Orders.{compare}
 use Rattle.cost.specs.Sums.{bounded}
 
@@ -32,9 +30,9 @@ small : (b : Bool) (p d : ℕ) → p ≤ 65535 → cond b (Some p) None ≡ Some
 small true p d h e = let i : p ≡ d = cc in omega arith
 small false p d h e = let z : _≡_ {A = ℕ} 0 1 = cc in absurd (omega arith)
 
-pub low : (cs : List Charge) (c : ℕ) → length cs ≤ MOST → addedTo costOf add 0 cs ≡ Some c → Fits (carried c) × Low (shown c)
-low cs c m e =
-    let i = bounded costOf add (λ a. a) 65535 (λ a b. refl) (λ h d f. small (eqb (h .breaches) 0) (h .penalty) d (h .low) f) cs 0 c e in
+pub low : (c : ℕ) → SumOfCharges costOf add 0 c → Fits (carried c) × Low (shown c)
+low c s =
+    let i = bounded costOf add (λ a. a) 65535 (λ a b. refl) (λ h d f. small (eqb (h .breaches) 0) (h .penalty) d (h .low) f) (s .charges) 0 c (s .comes) in
     ((omega arith, omega arith), (omega arith, omega arith))
 
 abbrev pub strict : Kind
@@ -53,5 +51,5 @@ strict = record {
   add-less = λ a b c h. omega arith;
   shown-zero = refl;
   low = low;
-  exact = λ a b e. ap (λ t. t .penalty) e;
+  exact = λ a b s t e. ap (λ t. t .penalty) e;
 }

@@ -2,6 +2,7 @@
 pub mod charge;
 pub mod graded;
 pub mod kind;
+mod making;
 pub mod strict;
 
 pub use charge::Charge;

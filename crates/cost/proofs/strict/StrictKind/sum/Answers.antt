@@ -5,7 +5,7 @@ use Rattle.cost.proofs.strict.StrictKind.sum.Needs as need
 
 pub returns : need.returns
 returns c = λ x y p q s.
-    let fit = low (s .charges) _ (s .few) (s .comes) in
+    let fit = low _ s in
     record {
       arises = s;
       same = same-total _ _ _ _ refl (no-wrap _ _ x y (ap (λ t. t .penalty) (p .same)) (ap (λ t. t .penalty) (q .same)) (fit .0 .1));
