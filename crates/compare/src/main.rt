@@ -7,14 +7,14 @@ use std::error::AnyError;
 
 /// How many comparisons were made, and how many came out equal.
 #[derive(Clone, Copy)]
-pub struct Score {
+pub(crate) struct Score {
     compared: u32,
     equal: u32,
 }
 
 impl Score {
     /// One more comparison.
-    pub fn count(&mut self, equal: bool) {
+    pub(crate) fn count(&mut self, equal: bool) {
         self.compared = self.compared.saturating_add(1);
         if equal {
             self.equal = self.equal.saturating_add(1);
@@ -22,7 +22,7 @@ impl Score {
     }
 
     /// One more comparison, whose outcome is printed.
-    pub fn note(&mut self, rt: &LibcRuntime, equal: bool) -> Result<(), AnyError> {
+    pub(crate) fn note(&mut self, rt: &LibcRuntime, equal: bool) -> Result<(), AnyError> {
         self.count(equal);
         let outcome = if equal {
             "as expected"

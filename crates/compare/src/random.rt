@@ -72,7 +72,7 @@ fn one<C: CostKind>(
 }
 
 /// Random logs of random tables of at most three modes, with few penalties, so that many paths are equally cheap.
-pub fn logs(rt: &LibcRuntime, score: &mut Score) -> Result<(), AnyError> {
+pub(crate) fn logs(rt: &LibcRuntime, score: &mut Score) -> Result<(), AnyError> {
     let mut dice = Dice { state: 2463534242 };
     for _ in 0..TABLES {
         let modes = dice.roll(3) + 1;

@@ -53,7 +53,7 @@ fn tables(rt: &LibcRuntime, score: &mut Score) -> Result<(), AnyError> {
 }
 
 /// Tables and parameters that are refused.
-pub fn models(rt: &LibcRuntime, score: &mut Score) -> Result<(), AnyError> {
+pub(crate) fn models(rt: &LibcRuntime, score: &mut Score) -> Result<(), AnyError> {
     tables(rt, score)?;
     let parameters = Parameters {
         band: 32,

@@ -3,8 +3,6 @@ use super::Score;
 use cost::CostKind;
 use cost::Graded;
 use cost::GradedKind;
-use cost::Shown;
-use cost::ShownPartialEq;
 use cost::Strict;
 use cost::StrictKind;
 use model::Banded;
@@ -16,17 +14,21 @@ use model::Parameters;
 use reference::full_table::FullTable;
 use std::error::AnyError;
 
-/// The answers that a log should have. `progress` has, after each accepted reading, how many readings are decided
-/// and how many cells are live.
+// A log with the answers that it should have: the modes and the total of its cheapest path, and the numbers of decided
+// readings and of live cells after each accepted reading.
 #[derive(Drop)]
-pub struct Expected<'a> {
-    pub modes: &'a [usize],
-    pub total: Shown,
-    pub progress: &'a [(usize, usize)],
+struct Log<'a> {
+    name: &'a str,
+    readings: &'a [u8],
+    modes: &'a [usize],
+    breaches: u64,
+    penalty: u64,
+    decided: &'a [usize],
+    live: &'a [usize],
 }
 
-/// The saw: two modes, 5 apart.
-pub const SAW: Parameters = Parameters {
+/// The saw: two modes whose centres are 2 and 7.
+pub(crate) const SAW: Parameters = Parameters {
     modes: 2,
     values: 10,
     band: 1,
@@ -41,102 +43,80 @@ pub const SAW: Parameters = Parameters {
 fn show<M: Model, C: CostKind>(
     rt: &LibcRuntime,
     score: &mut Score,
-    name: &str,
     model: &M,
     kind: &C,
-    readings: &[u8],
-    expected: &Expected,
+    log: &Log,
 ) -> Result<(), AnyError> {
-    let mut table = FullTable::new(rt.alloc(), model.modes());
-    let mut progress = Vec::new(rt.alloc());
+    let name = log.name;
+    let readings = log.readings;
     println!(rt, "{name}: readings {readings:?}")?;
+    let mut table = FullTable::new(rt.alloc(), model.modes());
+    let mut decided = Vec::new(rt.alloc());
+    let mut live = Vec::new(rt.alloc());
     for (place, value) in readings.iter().enumerate() {
         if !table.push(model, kind, usize::from(*value))? {
             println!(rt, "  no mode is reachable with the reading at {place}")?;
             break;
         }
-        progress.push(table.open()?)?;
+        let progress = table.progress()?;
+        decided.push(progress.decided)?;
+        live.push(progress.live)?;
     }
+    println!(rt, "  decided {decided:?}, live cells {live:?}")?;
     let found = table.decode(kind)?;
     let modes = found.modes.as_slice();
     let total = kind.shown(found.total);
     let breaches = total.breaches;
     let penalty = total.penalty;
-    println!(rt, "  decided and live after each reading {progress:?}")?;
-    println!(
-        rt,
-        "  modes {modes:?}, {breaches} breaches, penalty {penalty}"
-    )?;
-    let equal = modes == expected.modes
-        && progress.as_slice() == expected.progress
-        && total == expected.total;
-    score.note(rt, equal)
+    println!(rt, "  modes {modes:?}, total {breaches} and {penalty}")?;
+    let counts = decided.as_slice() == log.decided && live.as_slice() == log.live;
+    let path = modes == log.modes && breaches == log.breaches && penalty == log.penalty;
+    score.note(rt, counts && path)
 }
 
-/// Logs of the saw, and one of no readings.
-pub fn saw_logs(rt: &LibcRuntime, score: &mut Score) -> Result<(), AnyError> {
+/// A log of the saw, and one of no readings.
+pub(crate) fn saw_logs(rt: &LibcRuntime, score: &mut Score) -> Result<(), AnyError> {
     let saw = Banded::new(SAW);
-    let a = Expected {
+    let cut = Log {
+        name: "saw under Strict",
+        readings: &[2, 2, 7, 7, 7],
         modes: &[0, 0, 1, 1, 1],
-        total: Shown {
-            breaches: 0,
-            penalty: 4,
-        },
-        progress: &[(0, 2), (1, 2), (2, 2), (2, 4), (4, 2)],
+        breaches: 0,
+        penalty: 4,
+        decided: &[0, 1, 2, 2, 4],
+        live: &[2, 2, 2, 4, 2],
     };
-    show(
-        rt,
-        score,
-        "saw under Strict",
-        &saw,
-        &Strict {},
-        &[2, 2, 7, 7, 7],
-        &a,
-    )?;
-    let none = Expected {
+    show(rt, score, &saw, &Strict {}, &cut)?;
+    let empty = Log {
+        name: "no readings under Strict",
+        readings: &[],
         modes: &[],
-        total: Shown {
-            breaches: 0,
-            penalty: 0,
-        },
-        progress: &[],
+        breaches: 0,
+        penalty: 0,
+        decided: &[],
+        live: &[],
     };
-    show(
-        rt,
-        score,
-        "no readings under Strict",
-        &saw,
-        &Strict {},
-        &[],
-        &none,
-    )
+    show(rt, score, &saw, &Strict {}, &empty)
 }
 
 /// Logs with equally cheap paths: the lower mode at the latest difference wins.
-pub fn tie_logs(rt: &LibcRuntime, score: &mut Score) -> Result<(), AnyError> {
+pub(crate) fn tie_logs(rt: &LibcRuntime, score: &mut Score) -> Result<(), AnyError> {
     let even = Banded::new(Parameters {
         hop: 0,
         rate: 0,
         spacing: 4,
         ..SAW
     });
-    let d = Expected {
+    let free = Log {
+        name: "free passages under Strict",
+        readings: &[4, 6],
         modes: &[0, 1],
-        total: Shown {
-            breaches: 0,
-            penalty: 2,
-        },
-        progress: &[(0, 2), (1, 2)],
+        breaches: 0,
+        penalty: 2,
+        decided: &[0, 1],
+        live: &[2, 2],
     };
-    show(
-        rt,
-        score,
-        "free passages under Strict",
-        &even,
-        &Strict {},
-        &[4, 6],
-        &d,
-    )?;
+    show(rt, score, &even, &Strict {}, &free)?;
     let wide = Banded::new(Parameters {
         modes: 3,
         hop: 0,
@@ -144,69 +124,40 @@ pub fn tie_logs(rt: &LibcRuntime, score: &mut Score) -> Result<(), AnyError> {
         spacing: 4,
         ..SAW
     });
-    let e = Expected {
+    let three = Log {
+        name: "three modes under both kinds",
+        readings: &[0, 8],
         modes: &[0, 1],
-        total: Shown {
-            breaches: 0,
-            penalty: 5,
-        },
-        progress: &[(0, 3), (0, 5)],
+        breaches: 0,
+        penalty: 5,
+        decided: &[0, 0],
+        live: &[3, 5],
     };
-    show(
-        rt,
-        score,
-        "three modes under Strict",
-        &wide,
-        &Strict {},
-        &[0, 8],
-        &e,
-    )?;
-    show(
-        rt,
-        score,
-        "three modes under Graded",
-        &wide,
-        &Graded {},
-        &[0, 8],
-        &e,
-    )
+    show(rt, score, &wide, &Strict {}, &three)?;
+    show(rt, score, &wide, &Graded {}, &three)
 }
 
-/// A table whose only passage has a breach.
-pub fn breach_logs(rt: &LibcRuntime, score: &mut Score) -> Result<(), AnyError> {
+/// Logs of a table whose only passage has a breach.
+pub(crate) fn breach_logs(rt: &LibcRuntime, score: &mut Score) -> Result<(), AnyError> {
     let table = DenseTable::new(1, 1, &[0, 65536, 0]);
-    let strict = Expected {
+    let barred = Log {
+        name: "a breach under Strict",
+        readings: &[0, 0],
         modes: &[0],
-        total: Shown {
-            breaches: 0,
-            penalty: 0,
-        },
-        progress: &[(1, 0)],
+        breaches: 0,
+        penalty: 0,
+        decided: &[1],
+        live: &[0],
     };
-    show(
-        rt,
-        score,
-        "a breach under Strict",
-        &table,
-        &Strict {},
-        &[0, 0],
-        &strict,
-    )?;
-    let graded = Expected {
+    show(rt, score, &table, &Strict {}, &barred)?;
+    let counted = Log {
+        name: "a breach under Graded",
+        readings: &[0, 0],
         modes: &[0, 0],
-        total: Shown {
-            breaches: 1,
-            penalty: 0,
-        },
-        progress: &[(1, 0), (2, 0)],
+        breaches: 1,
+        penalty: 0,
+        decided: &[1, 2],
+        live: &[0, 0],
     };
-    show(
-        rt,
-        score,
-        "a breach under Graded",
-        &table,
-        &Graded {},
-        &[0, 0],
-        &graded,
-    )
+    show(rt, score, &table, &Graded {}, &counted)
 }

@@ -1,4 +1,9 @@
 //! The cheapest path, found by trying every path.
+ghost use mathlib.Core.Path.{_≡_};
+ghost use lib.ListN.{length};
+ghost use Rattle.std.specs.Of.Vec.{vec-len};
+ghost use Rattle.std.specs.Options.{Cases as BySome};
+ghost use Rattle.std.specs.Vec.{made};
 use super::Decoded;
 use super::improves;
 use super::plus;
@@ -56,7 +61,9 @@ pub fn decode<M: Model, C: CostKind>(
     model: &M,
     kind: &C,
     readings: &[u8],
-) -> Result<Option<Decoded>, AllocError> {
+) -> Result<Option<Decoded>, AllocError>
+    ensures { λ r. ⌜ made r (λ o. BySome o (Unit {0}) (λ d. vec-len (d .modes) ≡ length (now (readings .entry)))) ⌝ }
+{
     let modes = model.modes();
     let mut path = vec![in heap; 0; readings.len()]?;
     let mut best: Option<Decoded> = None;

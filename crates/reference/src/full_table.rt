@@ -1,4 +1,9 @@
 //! Viterbi's algorithm over a table with a row for every reading.
+ghost use mathlib.Core.Path.{_≡_};
+ghost use mathlib.Core.Bool.{cond};
+ghost use Prim.Native.Nat.{_+_, _≤_};
+ghost use Rattle.std.specs.Of.Vec.{vec-len};
+ghost use Rattle.std.specs.Vec.{made};
 use super::Decoded;
 use super::improves;
 use super::plus;
@@ -23,9 +28,18 @@ pub struct FullTable {
     rows: Vec<Vec<Option<Arrival>>>,
 }
 
+/// How far a running log is decided: the number of decided readings, and of live cells.
+#[derive(Clone, Copy)]
+pub struct Progress {
+    pub decided: usize,
+    pub live: usize,
+}
+
 impl FullTable {
     /// A table without readings, for a model of so many modes.
-    pub fn new(heap: Global, modes: usize) -> FullTable {
+    pub fn new(heap: Global, modes: usize) -> FullTable
+        ensures { λ r. ⌜ r .modes ≡ modes ⌝ ∗ ⌜ vec-len (r .rows) ≡ 0 ⌝ }
+    {
         FullTable {
             heap,
             modes,
@@ -93,7 +107,10 @@ impl FullTable {
         model: &M,
         kind: &C,
         value: usize,
-    ) -> Result<bool, AllocError> {
+    ) -> Result<bool, AllocError>
+        ensures modes { λ _. ⌜ now (self .exit) .modes ≡ now (self .entry) .modes ⌝ }
+        ensures rows { λ r. ⌜ made r (λ b. vec-len (now (self .exit) .rows) ≡ vec-len (now (self .entry) .rows) + cond b 1 0) ⌝ }
+    {
         let mut row = Vec::new(self.heap);
         let mut reachable = false;
         for mode in 0..self.modes {
@@ -112,7 +129,9 @@ impl FullTable {
     }
 
     // The path to a mode, from the last reading back.
-    fn path(&self, mode: usize) -> Result<Vec<usize>, AllocError> {
+    fn path(&self, mode: usize) -> Result<Vec<usize>, AllocError>
+        ensures { λ r. ⌜ made r (λ p. vec-len p ≡ vec-len (now (self .entry) .rows)) ⌝ }
+    {
         let mut path = Vec::new(self.heap);
         let mut mode = mode;
         for reading in (0..self.rows.len()).rev() {
@@ -154,7 +173,9 @@ impl FullTable {
     }
 
     /// The cheapest path of the log, with its total.
-    pub fn decode<C: CostKind>(&self, kind: &C) -> Result<Decoded, AllocError> {
+    pub fn decode<C: CostKind>(&self, kind: &C) -> Result<Decoded, AllocError>
+        ensures { λ r. ⌜ made r (λ d. vec-len (d .modes) ≡ vec-len (now (self .entry) .rows)) ⌝ }
+    {
         let (end, total) = match self.best_end(kind) {
             None => (0, kind.zero()),
             Some(best) => best,
@@ -164,19 +185,21 @@ impl FullTable {
     }
 
     /// How many readings are decided, and how many cells are live.
-    pub fn open(&self) -> Result<(usize, usize), AllocError> {
+    pub fn progress(&self) -> Result<Progress, AllocError>
+        ensures { λ r. ⌜ made r (λ p. p .decided ≤ vec-len (now (self .entry) .rows)) ⌝ }
+    {
         let paths = self.paths()?;
         let mut decided: usize = 0;
         let mut live: usize = 0;
         for reading in 0..self.rows.len() {
             let cells = cells_at(&paths, self.modes, reading);
             if live == 0 && cells == 1 {
-                decided = decided.saturating_add(1);
+                decided += 1;
             } else {
                 live = live.saturating_add(cells);
             }
         }
-        Ok((decided, live))
+        Ok(Progress { decided, live })
     }
 }
 
