@@ -17,9 +17,6 @@ impl Charge {
     pub fn worst() -> Charge
         ensures { λ r. ⌜ r ≡ worst ⌝ }
     {
-        Charge {
-            breaches: 9,
-            penalty: 65535,
-        }
+        Charge::saturating(9, 65535)
     }
 }

@@ -39,3 +39,6 @@ pub trait Model {
     fn reading(&self, mode: usize, value: usize) -> Charge
         ensures { λ r. ⌜ r ≡ meaning (now (self .entry)) .reading mode value ⌝ };
 }
+
+#[cfg(test)]
+mod tests;

@@ -1,4 +1,4 @@
-use mathlib.Core.Path.{refl}
+use native.Mathlib.Omega.{arith}
 use Rattle.model.proofs.Ranges.{few-modes, few-values}
 use Rattle.model.proofs.banded.Banded.new.Needs as need
 
@@ -7,7 +7,7 @@ returns-in-Err c =
     let e = c .in-Err .ensures tt .first in
     record {
       sound = λ ok. absurd (ok (e .0) (e .2 .here));
-      unsound = λ _. (refl, refl);
+      unsound = λ _. (omega arith, omega arith);
     }
 
 pub ghost-result-2 : need.ghost-result-2
