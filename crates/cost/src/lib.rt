@@ -1,9 +1,9 @@
 //! Charges, what they cost, and how costs are added, compared and shown.
-pub mod charge;
-pub mod graded;
-pub mod kind;
+mod charge;
+mod graded;
+mod kind;
 mod making;
-pub mod strict;
+mod strict;
 
 pub use charge::Charge;
 pub use charge::ChargeDebug;

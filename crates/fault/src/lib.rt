@@ -172,3 +172,6 @@ pub impl fmt::Display for Fault as FaultDisplay {
         write!(f, "fault {number} ({layer}, place {place}): {sentence}")
     }
 }
+
+#[cfg(test)]
+mod tests;

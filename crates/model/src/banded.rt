@@ -23,12 +23,12 @@ pub struct Parameters {
     pub spacing: u16,
 }
 
-/// A parameter's value and range.
+// A parameter's value, with the least and the greatest that it may have.
 #[derive(Clone, Copy)]
-pub struct Limit {
-    pub value: u16,
-    pub least: u16,
-    pub most: u16,
+struct Limit {
+    value: u16,
+    least: u16,
+    most: u16,
 }
 
 impl Limit {

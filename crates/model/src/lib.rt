@@ -3,8 +3,8 @@ ghost use mathlib.Core.Path.{_≡_};
 ghost use Rattle.model.specs.Meaning.{Meaning, OutsideIsWorst};
 use cost::Charge;
 
-pub mod banded;
-pub mod dense;
+mod banded;
+mod dense;
 
 pub use banded::Banded;
 pub use banded::BandedModel;

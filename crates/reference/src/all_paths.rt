@@ -5,7 +5,6 @@ ghost use Rattle.std.specs.Of.Vec.{vec-len};
 ghost use Rattle.std.specs.Options.{Cases as BySome};
 ghost use Rattle.std.specs.Vec.{made};
 use super::Decoded;
-use super::improves;
 use super::plus;
 use cost::CostKind;
 use cost::Total;
@@ -67,11 +66,13 @@ pub fn decode<M: Model, C: CostKind>(
     let modes = model.modes();
     let mut path = vec![in heap; 0; readings.len()]?;
     let mut best: Option<Decoded> = None;
-    let mut least: Option<Total> = None;
     for _ in 0..count(readings, modes) {
         if let Some(total) = cost_of(model, kind, readings, &path) {
-            if improves(kind, total, least) {
-                least = Some(total);
+            let better = match &best {
+                None => true,
+                Some(kept) => kind.less(total, kept.total),
+            };
+            if better {
                 let modes = path.clone()?;
                 best = Some(Decoded { modes, total });
             }

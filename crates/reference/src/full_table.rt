@@ -5,7 +5,6 @@ ghost use Prim.Native.Nat.{_+_, _≤_};
 ghost use Rattle.std.specs.Of.Vec.{vec-len};
 ghost use Rattle.std.specs.Vec.{made};
 use super::Decoded;
-use super::improves;
 use super::plus;
 use cost::CostKind;
 use cost::Total;
@@ -200,6 +199,14 @@ impl FullTable {
             }
         }
         Ok(Progress { decided, live })
+    }
+}
+
+// Whether a total is less than the least so far; the first one always is.
+fn improves<C: CostKind>(kind: &C, total: Total, least: Option<Total>) -> bool {
+    match least {
+        None => true,
+        Some(kept) => kind.less(total, kept),
     }
 }
 

@@ -18,11 +18,3 @@ fn plus<C: CostKind>(kind: &C, total: Total, charge: Charge) -> Option<Total> {
     let cost = kind.cost(charge)?;
     Some(kind.sum(total, cost))
 }
-
-// Whether a total is less than the least so far; the first one always is.
-fn improves<C: CostKind>(kind: &C, total: Total, least: Option<Total>) -> bool {
-    match least {
-        None => true,
-        Some(kept) => kind.less(total, kept),
-    }
-}
