@@ -95,3 +95,7 @@ Compared K a b r = (x y : K .Cost) → Carries K a x → Carries K b y → When 
 -- r is what is shown of the cost that a carries.
 abbrev pub ShownAs : Kind → Total → Shown → Type 0
 ShownAs K a r = (x : K .Cost) → Carries K a x → r ≡ K .shown x
+
+-- Where t carries the sum of fewer than 2,000,000 charges, r carries that sum with the charge h, or None where h is barred.
+abbrev pub Charged : Kind → Total → Charge → Option Total → Type 0
+Charged K t h r = (cs : List Charge) (c : K .Cost) → length cs < MOST → sum K (K .zero) cs ≡ Some c → t ≡ K .carried c → r ≡ carriedOf K (sum K c (h ∷ []))

@@ -1,5 +1,5 @@
 ghost use mathlib.Core.Path.{_≡_};
-ghost use Rattle.cost.specs.Kind.{Kind, carriedCost, Summed, Compared, ShownAs};
+ghost use Rattle.cost.specs.Kind.{Kind, carriedCost, Summed, Compared, ShownAs, Charged};
 use super::charge::Charge;
 use super::charge::Shown;
 use super::charge::Total;
@@ -31,4 +31,12 @@ pub trait CostKind {
     /// The numbers that are shown of a cost.
     fn shown(&self, a: Total) -> Shown
         ensures { λ r. ⌜ ShownAs (kind (now (self .entry))) a r ⌝ };
+
+    /// The total with one more charge, or `None` where the charge is barred.
+    fn charged(&self, total: Total, charge: Charge) -> Option<Total>
+        ensures { λ r. ⌜ Charged (kind (now (self .entry))) total charge r ⌝ }
+    {
+        let cost = self.cost(charge)?;
+        Some(self.sum(total, cost))
+    }
 }

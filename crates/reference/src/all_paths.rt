@@ -5,7 +5,6 @@ ghost use Rattle.std.specs.Of.Vec.{vec-len};
 ghost use Rattle.std.specs.Options.{Cases as BySome};
 ghost use Rattle.std.specs.Vec.{made};
 use super::Decoded;
-use super::plus;
 use cost::CostKind;
 use cost::Total;
 use model::Model;
@@ -26,8 +25,8 @@ fn cost_of<M: Model, C: CostKind>(
             None => model.start(*mode),
             Some(from) => model.passage(from, *mode),
         };
-        total = plus(kind, total, charge)?;
-        total = plus(kind, total, model.reading(*mode, usize::from(*value)))?;
+        total = kind.charged(total, charge)?;
+        total = kind.charged(total, model.reading(*mode, usize::from(*value)))?;
         before = Some(*mode);
     }
     Some(total)

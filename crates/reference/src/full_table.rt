@@ -5,7 +5,6 @@ ghost use Prim.Native.Nat.{_+_, _≤_};
 ghost use Rattle.std.specs.Of.Vec.{vec-len};
 ghost use Rattle.std.specs.Vec.{made};
 use super::Decoded;
-use super::plus;
 use cost::CostKind;
 use cost::Total;
 use model::Model;
@@ -59,8 +58,8 @@ impl FullTable {
         mode: usize,
         value: usize,
     ) -> Option<Arrival> {
-        let started = plus(kind, kind.zero(), model.start(mode))?;
-        let total = plus(kind, started, model.reading(mode, value))?;
+        let started = kind.charged(kind.zero(), model.start(mode))?;
+        let total = kind.charged(started, model.reading(mode, value))?;
         Some(Arrival { total, before: 0 })
     }
 
@@ -74,8 +73,8 @@ impl FullTable {
         value: usize,
     ) -> Option<Arrival> {
         let last = self.at(self.rows.len().saturating_sub(1), before)?;
-        let passed = plus(kind, last.total, model.passage(before, mode))?;
-        let total = plus(kind, passed, model.reading(mode, value))?;
+        let passed = kind.charged(last.total, model.passage(before, mode))?;
+        let total = kind.charged(passed, model.reading(mode, value))?;
         Some(Arrival { total, before })
     }
 
