@@ -16,6 +16,7 @@ use Rattle.cost.specs.declared.charge.Shown.{Shown}
 abbrev pub MOST : ℕ
 MOST = 2000000
 
+-- What f makes of the value, if there is one.
 abbrev pub andThen : {A B : Type 0} → Option A → (A → Option B) → Option B
 andThen None f = None
 andThen (Some a) f = f a
@@ -31,13 +32,15 @@ pub record SumOfCharges {C : Type 0} (costOf : Charge → Option C) (add : C →
   pub few : length charges ≤ MOST
   pub comes : addedTo costOf add zero charges ≡ Some c
 
--- Both numbers are below 2^42; below 2^64.
+-- Both shown numbers are below 2^42.
 abbrev pub Low : Shown → Type 0
 Low s = (s .breaches < 2 ^ 42) × (s .penalty < 2 ^ 42)
 
+-- Both carried numbers are below 2^64.
 abbrev pub Fits : Total → Type 0
 Fits t = (t .breaches < 2 ^ 64) × (t .penalty < 2 ^ 64)
 
+-- 0 breaches and penalty 0.
 abbrev pub shownZero : Shown
 shownZero = record { breaches = 0; penalty = 0 }
 
@@ -76,6 +79,7 @@ pub record Carries (K : Kind) (t : Total) (c : K .Cost) : Type 0 where
   pub arises : Arises K c
   pub same : t ≡ K .carried c
 
+-- The total of a cost, if there is one.
 abbrev pub carriedOf : (K : Kind) → Option (K .Cost) → Option Total
 carriedOf K None = None
 carriedOf K (Some c) = Some (K .carried c)

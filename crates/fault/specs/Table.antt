@@ -5,14 +5,17 @@ use Rattle.fault.specs.declared.Fault.the-variants.{UnusableModel, NotIdle, Lo
 use Rattle.fault.specs.declared.Layer.{Layer}
 use Rattle.fault.specs.declared.Layer.the-variants.{Session, Model, File, Queue}
 
+-- What is told of a fault.
 pub record Row : Type 0 where
   pub number : ℕ
   pub layer : Layer
   pub place : ℕ
 
+-- A line of the table.
 abbrev entry : ℕ → Layer → ℕ → Row
 entry n l p = record { number = n; layer = l; place = p }
 
+-- The line of each fault.
 abbrev pub row : Fault → Row
 row UnusableModel = entry 1 Session 0
 row NotIdle = entry 2 Session 0

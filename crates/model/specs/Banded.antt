@@ -37,6 +37,7 @@ OutOfRange p i = let l = getD (limits p) i (limit 0 0 0) in (l .value < l .least
 abbrev pub AllInRange : Parameters → Type 0
 AllInRange p = (i : ℕ) → OutOfRange p i → ⊥
 
+-- How far two numbers are apart.
 abbrev pub distance : ℕ → ℕ → ℕ
 distance a b = (a - b) + (b - a)
 

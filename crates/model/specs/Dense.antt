@@ -16,6 +16,7 @@ use Rattle.model.specs.Meaning.{Meaning, within}
 abbrev pub Shaped : ℕ → ℕ → Type 0
 Shaped k v = (1 ≤ k) × (k ≤ 32) × (1 ≤ v) × (v ≤ 256)
 
+-- How many numbers a table has.
 abbrev pub size : ℕ → ℕ → ℕ
 size k v = k + k * k + k * v
 
@@ -23,13 +24,15 @@ size k v = k + k * k + k * v
 abbrev pub MOST-ENTRY : ℕ
 MOST-ENTRY = 655359
 
+-- The charge in the entry i.
 abbrev pub chargeAt : List ℕ → ℕ → Charge
 chargeAt ns i = charge (getD ns i 0 / 65536) (getD ns i 0 % 65536)
 
+-- No entry is too large.
 abbrev pub EntriesInRange : List ℕ → Type 0
 EntriesInRange ns = (i : ℕ) → getD ns i 0 ≤ MOST-ENTRY
 
--- The table is sound.
+-- A table that passes the check.
 pub record SoundTable (k v : ℕ) (ns : List ℕ) : Type 0 where
   pub shaped : Shaped k v
   pub whole : length ns ≡ size k v

@@ -34,13 +34,13 @@ pub struct Progress {
 }
 
 impl FullTable {
-    /// A table without readings, for a model of so many modes.
-    pub fn new(heap: Global, modes: usize) -> FullTable
-        ensures { λ r. ⌜ r .modes ≡ modes ⌝ ∗ ⌜ vec-len (r .rows) ≡ 0 ⌝ }
+    /// A table without readings, for a model of `count` modes.
+    pub fn new(heap: Global, count: usize) -> FullTable
+        ensures { λ r. ⌜ r .modes ≡ count ⌝ ∗ ⌜ vec-len (r .rows) ≡ 0 ⌝ }
     {
         FullTable {
             heap,
-            modes,
+            modes: count,
             rows: Vec::new(heap),
         }
     }
