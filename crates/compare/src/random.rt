@@ -39,7 +39,8 @@ impl Dice {
     }
 }
 
-// Decodes one random log of at most six readings both ways. A reading that is refused must leave no path open.
+// Decodes one random log of at most six readings both ways, with decided readings and live cells after each one.
+// A reading that is refused must leave no path open.
 fn one<C: CostKind>(
     rt: &LibcRuntime,
     score: &mut Score,
@@ -54,7 +55,11 @@ fn one<C: CostKind>(
     for _ in 0..dice.roll(7) {
         let value = dice.value(values);
         readings.push(value)?;
-        if !table.push(model, kind, usize::from(value))? {
+        if table.push(model, kind, usize::from(value))? {
+            let found = table.progress()?;
+            let other = all_paths::progress(heap, model, kind, &readings)?;
+            score.count(found.decided == other.decided && found.live == other.live);
+        } else {
             let other = all_paths::decode(heap, model, kind, &readings)?;
             score.count(other.is_none());
             let _ = readings.pop();

@@ -3,15 +3,12 @@ use mathlib.Core.Path.{_≡_}
 use mathlib.Core.HLevel.{isProp→PathP}
 use Prim.Native.Nat.{ℕ, min, _≤_}
 use native.Mathlib.Bridge.{le-prop}
-use native.Mathlib.Omega.{arith}
+use native.Mathlib.Nat.{min-le-right}
 use Rattle.cost.specs.declared.charge.Charge.{Charge}
-
-pub at-most : (a b : ℕ) → min a b ≤ b
-at-most a b = omega arith
 
 -- The charge of b breaches and penalty p; a number too large for a charge is cut to the largest.
 abbrev pub charge : ℕ → ℕ → Charge
-charge b p = record { breaches = min b 9; penalty = min p 65535; few = at-most b 9; low = at-most p 65535 }
+charge b p = record { breaches = min b 9; penalty = min p 65535; few = min-le-right b 9; low = min-le-right p 65535 }
 
 -- What a model asks for a mode or a value that it does not have.
 abbrev pub worst : Charge

@@ -5,6 +5,7 @@ ghost use Prim.Native.Nat.{_+_, _≤_};
 ghost use Rattle.std.specs.Of.Vec.{vec-len};
 ghost use Rattle.std.specs.Vec.{made};
 use super::Decoded;
+use super::Progress;
 use cost::CostKind;
 use cost::Total;
 use model::Model;
@@ -24,13 +25,6 @@ pub struct FullTable {
     heap: Global,
     modes: usize,
     rows: Vec<Vec<Option<Arrival>>>,
-}
-
-/// How far a running log is decided: the number of decided readings, and of live cells.
-#[derive(Clone, Copy)]
-pub struct Progress {
-    pub decided: usize,
-    pub live: usize,
 }
 
 impl FullTable {

@@ -10,3 +10,10 @@ pub struct Decoded {
     pub modes: Vec<usize>,
     pub total: Total,
 }
+
+/// How far a running log is decided: the number of decided readings, and of live cells.
+#[derive(Clone, Copy)]
+pub struct Progress {
+    pub decided: usize,
+    pub live: usize,
+}

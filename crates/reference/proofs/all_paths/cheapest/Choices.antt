@@ -2,7 +2,7 @@ use mathlib.Core.Path.{_≡_}
 use lib.ListN.{length}
 use Rattle.std.specs.Of.Vec.{vec-len}
 use Rattle.std.specs.Options.{Cases}
-use Rattle.reference.proofs.all_paths.decode.Given as given
+use Rattle.reference.proofs.all_paths.cheapest.Given as given
 
 abbrev pub Inv-loop : given.InvT-loop
 Inv-loop g l =
