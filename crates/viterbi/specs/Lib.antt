@@ -1,1 +1,5 @@
 pub mod Lists
+pub mod Paths
+pub mod Algorithm
+pub mod Theorems
+pub mod Worked

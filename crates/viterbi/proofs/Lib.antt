@@ -1,0 +1,10 @@
+pub mod Ends
+pub mod Steps
+pub mod Cheapest
+pub mod Algorithm
+pub mod Shared
+pub mod Growth
+pub mod Forest
+pub mod Count
+pub mod Totals
+pub mod Worked
