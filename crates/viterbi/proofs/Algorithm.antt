@@ -34,14 +34,15 @@ module _ (K : Kind) {A : Type 0} where
 pub in-front : (u n : ℕ) → u < suc n → (u < n) ⊎ (u ≡ n)
 in-front u n h = elim (compare u n) [ inl l ↦ inl l | inr e ↦ elim e [ inl i ↦ inr i | inr l ↦ absurd (omega arith) ] ]
 
+-- nothing at n, and nothing below
+pub none-to : {A : Type 0} (f : ℕ → Option A) (n : ℕ) → ((u : ℕ) → u < n → f u ≡ None) → f n ≡ None → (u : ℕ) → u < suc n → f u ≡ None
+none-to f n h e u l = elim (in-front u n l) [ inl k ↦ h u k | inr i ↦ ap f i ∙ e ]
+
 module _ (K : Kind) {A : Type 0} (f : ℕ → Option (K .Cost × A)) where
   none-at : (u : ℕ) (y : K .Cost × A) → f u ≡ None → f u ≡ Some y → ⊥
   none-at u y a b = not-none y (sym a ∙ b)
 
   module _ (n : ℕ) where
-    more-none : ((u : ℕ) → u < n → f u ≡ None) → f n ≡ None → (u : ℕ) → u < suc n → f u ≡ None
-    more-none h e u l = elim (in-front u n l) [ inl k ↦ h u k | inr i ↦ ap f i ∙ e ]
-
     -- the place m is the first of least cost if it is so against those below n and against n
     grow : (m : ℕ) (x : K .Cost × A) → m < suc n → f m ≡ Some x → ((u : ℕ) (z : K .Cost × A) → u < n → f u ≡ Some z → K .Less (x .0) (z .0) ⊎ ((x .0 ≡ z .0) × (m ≤ u))) → ((z : K .Cost × A) → f n ≡ Some z → K .Less (x .0) (z .0) ⊎ ((x .0 ≡ z .0) × (m ≤ n))) → Found K (suc n) f (Some x)
     grow m x l e below here = record { place = m; what = x; inside = l; reads = e; is = refl; least = λ u z k i. at u z i (in-front u n k) }
@@ -73,7 +74,7 @@ module _ (K : Kind) {A : Type 0} (f : ℕ → Option (K .Cost × A)) where
   least-of (suc n) = go (leastOf K n f) (least-of n) (f n) refl
     where
       go : (o : Option (K .Cost × A)) → Least K n f o → (p : Option (K .Cost × A)) → f n ≡ p → Least K (suc n) f (better K o p)
-      go o (inl h) None e = inl (rw (h .0), more-none n (h .1) e)
+      go o (inl h) None e = inl (rw (h .0), none-to f n (h .1) e)
       go o (inl h) (Some y) e = rw (h .0) (inr (found-new n (h .1) y e))
       go o (inr a) None e = rw (a .is) (inr (found-old n o a e))
       go o (inr a) (Some y) e = rw (a .is) (inr (found-both n o a y e (K .compare (a .what .0) (y .0))))

@@ -14,7 +14,7 @@ use Rattle.cost.specs.Kind.{Kind}
 use Rattle.viterbi.specs.Lists.{Begins}
 use Rattle.viterbi.specs.Algorithm.{Kept, meet, meetNext, meetOf}
 use Rattle.viterbi.proofs.Steps.{not-none, some-same}
-use Rattle.viterbi.proofs.Algorithm.{in-front}
+use Rattle.viterbi.proofs.Algorithm.{in-front, none-to}
 
 pub begins-trans : (a b c : List ℕ) → Begins a b → Begins b c → Begins a c
 begins-trans a b c h k = (h .0 ++ k .0, k .1 ∙ (ap (λ z. z ++ k .0) (h .1) ∙ append-assoc a (h .0) (k .0)))
@@ -80,14 +80,11 @@ module _ (K : Kind) (f : ℕ → Option (Kept K)) where
   same-path u y z a b = ap (λ (w : Kept K). w .1) (some-same y z (sym a ∙ b))
 
   module _ (n : ℕ) where
-    below : ((u : ℕ) → u < n → f u ≡ None) → f n ≡ None → (u : ℕ) → u < suc n → f u ≡ None
-    below h e u l = elim (in-front u n l) [ inl k ↦ h u k | inr i ↦ ap f i ∙ e ]
-
     upto : (e : List ℕ) → ((u : ℕ) (y : Kept K) → u < n → f u ≡ Some y → Begins e (y .1)) → ((y : Kept K) → f n ≡ Some y → Begins e (y .1)) → (u : ℕ) (y : Kept K) → u < suc n → f u ≡ Some y → Begins e (y .1)
     upto e h k u y l i = elim (in-front u n l) [ inl m ↦ h u y m i | inr m ↦ k y (ap f (sym m) ∙ i) ]
 
     next : (o : Option (List ℕ)) → Met K n f o → (p : Option (Kept K)) → f n ≡ p → Met K (suc n) f (meetNext K o p)
-    next o (inl h) None e = inl (h .0, below (h .1) e)
+    next o (inl h) None e = inl (h .0, none-to f n (h .1) e)
     next o (inl h) (Some x) e = rw (h .0) (inr (
       x .1,
       refl,
