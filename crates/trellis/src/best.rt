@@ -1,0 +1,52 @@
+ghost use mathlib.Core.Path.{_≡_};
+ghost use Rattle.trellis.specs.Carried.{Through, Better, Arrived};
+use cost::Charge;
+use cost::CostKind;
+use cost::Total;
+
+/// The best way into a mode: its total, and the mode that it comes from.
+#[derive(Clone, Copy)]
+pub struct Best {
+    pub total: Total,
+    pub from: u8,
+}
+
+/// The total with one more charge, if there is one.
+pub fn through<C: CostKind>(kind: &C, total: Option<Total>, passage: Charge) -> Option<Total>
+    ensures { λ r. ⌜ Through (C·CostKind .kind (now (kind .entry))) total passage r ⌝ }
+{
+    kind.charged(total?, passage)
+}
+
+/// The better of the best so far and the total of the next mode, which loses a tie.
+pub fn better<C: CostKind>(
+    kind: &C,
+    best: Option<Best>,
+    next: Option<Total>,
+    from: u8,
+) -> Option<Best>
+    ensures { λ r. ⌜ Better (C·CostKind .kind (now (kind .entry))) best next from r ⌝ }
+{
+    let Some(total) = next else {
+        return best;
+    };
+    match best {
+        None => Some(Best { total, from }),
+        Some(b) => {
+            if kind.less(total, b.total) {
+                Some(Best { total, from })
+            } else {
+                best
+            }
+        }
+    }
+}
+
+/// The best way with the charge of the reading added.
+pub fn arrived<C: CostKind>(kind: &C, best: Option<Best>, reading: Charge) -> Option<Best>
+    ensures { λ r. ⌜ Arrived (C·CostKind .kind (now (kind .entry))) best reading r ⌝ }
+{
+    let Best { total, from } = best?;
+    let total = kind.charged(total, reading)?;
+    Some(Best { total, from })
+}

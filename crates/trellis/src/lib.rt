@@ -1,0 +1,8 @@
+//! One reading of the trellis: from the totals of all modes to the next totals, and the predecessor of each mode.
+mod best;
+mod row;
+
+pub use best::Best;
+pub use row::first_row;
+pub use row::least;
+pub use row::next_row;
