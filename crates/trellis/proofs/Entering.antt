@@ -2,11 +2,10 @@
 use mathlib.Core.Path.{_≡_, refl, sym, _∙_, ap, subst}
 use mathlib.Core.List.{List, [], _∷_, _++_}
 use mathlib.Core.Logic.{_⊎_, inl, inr}
-use Prim.Native.Nat.{ℕ, zero, suc, _+_, _*_, _≤_, _<_, min}
+use Prim.Native.Nat.{ℕ, zero, suc, _+_, _*_, _≤_, _<_}
 use native.Mathlib.Omega.{arith}
 use native.Mathlib.Numerals.{add-one}
-use native.Mathlib.Nat.{min-le-left, min-eq-left}
-use lib.ListN.{length, getD}
+use lib.ListN.{length}
 use Rattle.std.specs.declared.option.Option.{Option}
 use Rattle.std.specs.declared.option.Option.the-variants.{Some, None}
 use Rattle.cost.specs.declared.charge.Charge.{Charge}
@@ -15,7 +14,7 @@ use Rattle.cost.specs.Kind.{Kind, MOST, andThen, sum, carriedOf}
 use Rattle.cost.proofs.Arising.{added-append}
 use Rattle.model.specs.Meaning.{Meaning}
 use Rattle.viterbi.specs.Lists.{EndsIn}
-use Rattle.viterbi.specs.Paths.{Reading, Log, later, charges, cost, extended, Open, Reachable, CheapestTo, Chosen}
+use Rattle.viterbi.specs.Paths.{Reading, Log, later, charges, cost, extended, Reachable, CheapestTo, Chosen}
 use Rattle.viterbi.specs.Algorithm.{chosenOf, better, leastOf, totals}
 use Rattle.viterbi.proofs.Steps.{not-none, some-same, split-then, sum-less, sum-defined}
 use Rattle.viterbi.proofs.Algorithm.{Found, Least, least-of, end-below}
@@ -23,7 +22,7 @@ use Rattle.viterbi.proofs.Growth.{exists, one-step}
 use Rattle.viterbi.proofs.Totals.{suffice}
 use Rattle.trellis.specs.declared.best.Best.{Best}
 use Rattle.trellis.specs.Carried.{Room, Way, from, and, best, carriedWay, HasRoom, WayHasRoom, Through, Better, Arrived}
-use Rattle.trellis.specs.Rows.{MODES, READINGS, totalAt, Held, passage, Into, LeastIn, Stands, EntersBy, Stood, Ready, EndsAt}
+use Rattle.trellis.specs.Rows.{totalAt, Held, passage, Into, LeastIn, Stands, EntersBy, Stood, Ready, EndsAt}
 use Rattle.trellis.proofs.Ways.{room-next}
 
 -- a path has two charges for each reading

@@ -3,7 +3,7 @@ use mathlib.Core.Path.{_≡_, refl, sym, _∙_, ap, subst}
 use mathlib.Core.Bool.{Bool, true, false, _||_}
 use mathlib.Core.List.{List, [], _∷_, _++_}
 use mathlib.Core.Logic.{_⊎_, inl, inr, _↔_}
-use Prim.Native.Nat.{ℕ, suc, _+_, _≤_, _<_, min}
+use Prim.Native.Nat.{ℕ, _+_, _<_}
 use native.Mathlib.Omega.{arith}
 use native.Mathlib.Numerals.{add-one}
 use lib.ListN.{length, getD, set}
@@ -16,15 +16,13 @@ use Rattle.cost.specs.declared.charge.Total.{Total}
 use Rattle.cost.specs.Kind.{Kind, andThen, carriedOf}
 use Rattle.model.specs.Meaning.{Meaning}
 use Rattle.viterbi.specs.Paths.{Reading, Log, cost, Reachable, CheapestTo, Chosen}
-use Rattle.viterbi.specs.Algorithm.{survivors}
-use Rattle.viterbi.proofs.Steps.{not-none, some-same, split-then}
+use Rattle.viterbi.proofs.Steps.{not-none, some-same}
 use Rattle.viterbi.proofs.Algorithm.{in-front, end-below}
 use Rattle.viterbi.proofs.Cheapest.{unique}
 use Rattle.viterbi.proofs.Growth.{exists, one-step, survivor-is}
 use Rattle.viterbi.proofs.Totals.{suffice}
 use Rattle.trellis.specs.declared.best.Best.{Best}
-use Rattle.trellis.specs.Carried.{best}
-use Rattle.trellis.specs.Rows.{MODES, totalAt, fromAt, Stands, EntersBy, Ready, Tells, Next, First, Filled, Beyond, EnteredBy, BegunBy, totalOf, fromOf}
+use Rattle.trellis.specs.Rows.{totalAt, fromAt, EntersBy, Ready, Tells, Next, First, Filled, Beyond, EnteredBy, BegunBy, totalOf, fromOf}
 
 module _ {A : Type 0} (l : List (Option A)) (n : ℕ) (a : Option A) where
   here : n < length l → getD (set l n a) n None ≡ a

@@ -1,22 +1,21 @@
 -- One more charge on a cost, and the better of two, as they are carried.
 use mathlib.Core.Path.{_≡_, refl, sym, _∙_, ap, subst}
-use mathlib.Core.List.{List, [], _∷_, _++_}
+use mathlib.Core.List.{[], _∷_, _++_}
 use mathlib.Core.Logic.{_⊎_, inl, inr}
-use mathlib.Core.Bool.{Bool, true, false}
-use Prim.Native.Nat.{ℕ, _+_, _≤_, _<_}
+use mathlib.Core.Bool.{true, false}
+use Prim.Native.Nat.{ℕ, _+_}
 use native.Mathlib.Omega.{arith}
-use lib.ListN.{length}
 use Rattle.std.specs.declared.option.Option.{Option}
 use Rattle.std.specs.declared.option.Option.the-variants.{Some, None}
 use Rattle.cost.specs.declared.charge.Charge.{Charge}
 use Rattle.cost.specs.declared.charge.Total.{Total}
-use Rattle.cost.specs.Kind.{Kind, MOST, andThen, sum, Carries, carriedOf, Charged, Compared}
+use Rattle.cost.specs.Kind.{Kind, andThen, sum, Carries, carriedOf, Charged, Compared}
 use Rattle.std.proofs.shelf.Lists.{length-push}
 use Rattle.cost.proofs.Arising.{added-append, carried-from}
 use Rattle.viterbi.proofs.Steps.{split-then}
 use Rattle.viterbi.specs.Algorithm.{chosenOf, better}
 use Rattle.trellis.specs.declared.best.Best.{Best}
-use Rattle.trellis.specs.Carried.{Room, Way, from, and, best, carriedWay, HasRoom, WayHasRoom, Through, Better, Arrived}
+use Rattle.trellis.specs.Carried.{Room, Way, from, and, best, carriedWay, HasRoom, Through, Better, Arrived}
 
 module _ (K : Kind) where
   pub with-charge : (t : Total) (h : Charge) (r : Option Total) (c : K .Cost) → Charged K t h r → Room K 1 c → t ≡ K .carried c → r ≡ carriedOf K (sum K c (h ∷ []))

@@ -1,10 +1,10 @@
 -- Costs that may be missing, as they are carried.
 use mathlib.Core.Path.{_≡_}
 use mathlib.Core.List.{List, [], _∷_}
-use Prim.Native.Nat.{ℕ, suc, _+_, _≤_}
+use Prim.Native.Nat.{ℕ, _+_, _≤_}
 use lib.ListN.{length}
 use Rattle.std.specs.declared.option.Option.{Option}
-use Rattle.std.specs.declared.option.Option.the-variants.{Some, None}
+use Rattle.std.specs.declared.option.Option.the-variants.{Some}
 use Rattle.cost.specs.declared.charge.Charge.{Charge}
 use Rattle.cost.specs.declared.charge.Total.{Total}
 use Rattle.cost.specs.Kind.{Kind, MOST, andThen, sum, carriedOf}
