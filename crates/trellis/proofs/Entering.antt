@@ -60,16 +60,16 @@ module _ (K : Kind) where
   least-room k zero f h = λ c s e. absurd (not-none (c, s) e)
   least-room k (suc n) f h = better-room k (leastOf K n f) (f n) (least-room k n f (λ u l. h u (omega arith))) (h n (omega arith))
 
-  module _ (M : Meaning) (row : List (Option Total)) where
-    pub least-more : (s : ℕ) (b r : Option Best) (a : Option Total) → s < M .modes → a ≡ totalAt row s → Better K b a s r → LeastIn K M row s b → LeastIn K M row (s + 1) r
+  module _ (k : ℕ) (row : List (Option Total)) where
+    pub least-more : (s : ℕ) (b r : Option Best) (a : Option Total) → s < k → a ≡ totalAt row s → Better K b a s r → LeastIn K k row s b → LeastIn K k row (s + 1) r
     least-more s b r a l isA picks inv o held =
         rw add-one (picks (leastOf K s (λ u. from K (o u) u)) (o s) (least-room 0 s (λ u. from K (o u) u) (λ u m. from-room 0 (o u) u (held u (omega arith) .1))) (held s l .1) (inv o held) (isA ∙ held s l .0))
 
-  module _ (M : Meaning) (row : List (Option Total)) (t : ℕ) where
-    ways-room : (o : ℕ → Option (K .Cost)) → Held K M 2 o row → (n : ℕ) → n ≤ M .modes → WayHasRoom K 1 (leastOf K n (passage K M o t))
+  module _ (M : Meaning) (k : ℕ) (row : List (Option Total)) (t : ℕ) where
+    ways-room : (o : ℕ → Option (K .Cost)) → Held K k 2 o row → (n : ℕ) → n ≤ k → WayHasRoom K 1 (leastOf K n (passage K M o t))
     ways-room o held n l = least-room 1 n (passage K M o t) (λ u m. from-room 1 _ u (room-next K 1 (o u) (M .passage u t) (held u (omega arith) .1)))
 
-    pub into-more : (s : ℕ) (b r : Option Best) (a next : Option Total) (h : Charge) → s < M .modes → a ≡ totalAt row s → h ≡ M .passage s t → Through K a h next → Better K b next s r → Into K M row t s b → Into K M row t (s + 1) r
+    pub into-more : (s : ℕ) (b r : Option Best) (a next : Option Total) (h : Charge) → s < k → a ≡ totalAt row s → h ≡ M .passage s t → Through K a h next → Better K b next s r → Into K M k row t s b → Into K M k row t (s + 1) r
     into-more s b r a next h l isA isH through picks inv o held =
         let m = held s l in
         let after = room-next K 1 (o s) (M .passage s t) (m .1) in
@@ -88,7 +88,7 @@ module _ (K : Kind) where
       comes = h .is-open .costs;
     }
 
-    pub held : Held K M n (totals K M (x ∷ xs)) row
+    pub held : Held K (M .modes) n (totals K M (x ∷ xs)) row
     held s l = at (totals K M (x ∷ xs) s) refl (totalAt row s) refl
       where
         at : (o : Option (K .Cost)) → totals K M (x ∷ xs) s ≡ o → (a : Option Total) → totalAt row s ≡ a → (totalAt row s ≡ carriedOf K (totals K M (x ∷ xs) s)) × HasRoom K n (totals K M (x ∷ xs) s)
@@ -100,12 +100,12 @@ module _ (K : Kind) where
             let h = suffice K M .stand (x ∷ xs) s c .0 (l, e) in
             (stands .reached s (h .0) c (h .1) ∙ sym (ap (carriedOf K) e), λ d i. subst (Room K n) (some-same c d (sym e ∙ i)) (room-of s (h .0) c (h .1)))
 
-  module _ (M : Meaning) (x : Reading) (xs : Log) (row : List (Option Total)) (ready : Ready K M x xs row) where
+  module _ (M : Meaning) (x : Reading) (xs : Log) (row : List (Option Total)) (k : ℕ) (ready : Ready K M k x xs row) where
     abbrev costs : ℕ → Option (K .Cost)
     costs = totals K M (x ∷ xs)
 
-    two-more : Held K M 2 costs row
-    two-more = held M x xs row (ready .stood .stands) 2 (omega (arith, ready .more))
+    two-more : Held K k 2 costs row
+    two-more = subst (λ k. Held K k 2 costs row) (sym (ready .stood .fits)) (held M x xs row (ready .stood .stands) 2 (omega (arith, ready .more)))
 
     module _ (r : Reading) (t : ℕ) (below : t < M .modes) where
       abbrev ways : ℕ → Way K
@@ -179,13 +179,13 @@ module _ (K : Kind) where
       looked w (inl n) = subst (λ w. EntersBy K M (x ∷ xs) r t (carriedWay K (and K w (M .reading t r)))) (sym (n .0)) (none (n .1))
       looked w (inr a) = subst (λ w. EntersBy K M (x ∷ xs) r t (carriedWay K (and K w (M .reading t r)))) (sym (a .is)) (found w a _ refl)
 
-      pub entered : (b c : Option Best) (n : ℕ) (h : Charge) → n ≡ M .modes → h ≡ M .reading t r → Into K M row t n b → Arrived K b h c → EntersBy K M (x ∷ xs) r t c
-      entered b c n h isN isH into arrives =
-          let e : b ≡ carriedWay K (leastOf K (M .modes) ways) = subst (λ n. b ≡ carriedWay K (leastOf K n ways)) isN (into costs two-more) in
-          let f = arrives (leastOf K (M .modes) ways) (ways-room M row t costs two-more (M .modes) (omega arith)) e in
+      pub entered : (b c : Option Best) (h : Charge) → h ≡ M .reading t r → Into K M k row t k b → Arrived K b h c → EntersBy K M (x ∷ xs) r t c
+      entered b c h isH into arrives =
+          let e : b ≡ carriedWay K (leastOf K (M .modes) ways) = subst (λ n. b ≡ carriedWay K (leastOf K n ways)) (ready .stood .fits) (into costs two-more) in
+          let f = arrives (leastOf K (M .modes) ways) (ways-room M k row t costs two-more (M .modes) (omega (arith, ready .stood .fits))) e in
           subst (EntersBy K M (x ∷ xs) r t) (sym (f ∙ ap (λ h. carriedWay K (and K (leastOf K (M .modes) ways) h)) isH)) (looked _ (least-of K ways (M .modes)))
 
-  module _ (M : Meaning) (x : Reading) (xs : Log) (row : List (Option Total)) (stood : Stood K M x xs row) where
+  module _ (M : Meaning) (x : Reading) (xs : Log) (row : List (Option Total)) (k : ℕ) (stood : Stood K M k x xs row) where
     abbrev ends : ℕ → Way K
     ends s = from K (totals K M (x ∷ xs) s) s
 
@@ -209,9 +209,9 @@ module _ (K : Kind) where
           refl,
         )
 
-    pub ended : (n : ℕ) (r : Option Best) → n ≡ M .modes → LeastIn K M row n r → EndsAt K M (x ∷ xs) r
-    ended n r e h =
-        let k = subst (λ n. r ≡ carriedWay K (leastOf K n ends)) e (h (totals K M (x ∷ xs)) (held M x xs row (stood .stands) 0 (omega (arith, stood .short)))) in
+    pub ended : (r : Option Best) → LeastIn K k row k r → EndsAt K M (x ∷ xs) r
+    ended r h =
+        let k = subst (λ n. r ≡ carriedWay K (leastOf K n ends)) (stood .fits) (h (totals K M (x ∷ xs)) (subst (λ k. Held K k 0 (totals K M (x ∷ xs)) row) (sym (stood .fits)) (held M x xs row (stood .stands) 0 (omega (arith, stood .short))))) in
         subst (EndsAt K M (x ∷ xs)) (sym k) (end-at _ (least-of K ends (M .modes)))
 
   -- after the first reading

@@ -22,7 +22,8 @@ use Rattle.viterbi.proofs.Cheapest.{unique}
 use Rattle.viterbi.proofs.Growth.{exists, one-step, survivor-is}
 use Rattle.viterbi.proofs.Totals.{suffice}
 use Rattle.trellis.specs.declared.best.Best.{Best}
-use Rattle.trellis.specs.Rows.{totalAt, fromAt, EntersBy, Ready, Tells, Next, First, Filled, Beyond, EnteredBy, BegunBy, totalOf, fromOf}
+use Rattle.trellis.specs.Rows.{totalAt, fromAt, EntersBy, Ready, Tells, Next, First, Filled, Beyond, EnteredBy, BegunBy, Backed, Marked, AllBacked, AllThemselves}
+use Rattle.trellis.specs.Carried.{totalOf, fromOf, OneOf}
 
 module _ {A : Type 0} (l : List (Option A)) (n : ℕ) (a : Option A) where
   here : n < length l → getD (set l n a) n None ≡ a
@@ -56,7 +57,7 @@ module _ (P : ℕ → Option Total → Option ℕ → Type 0) (n : ℕ) (row₀ 
 pub filled-none : (P : ℕ → Option Total → Option ℕ → Type 0) (row : List (Option Total)) (from : List (Option ℕ)) → Filled P 0 row row from from false
 filled-none P row from = record { each = λ t l. absurd (omega arith); tells = λ t l. absurd (omega arith); beyond = λ t l. refl; beyond-from = λ t l. refl }
 
-module _ (K : Kind) (M : Meaning) (x : Reading) (xs : Log) (r : Reading) (old row₀ row : List (Option Total)) (from₀ from : List (Option ℕ)) (any : Bool) (ready : Ready K M x xs old) (f : Filled (EnteredBy K M old r) (M .modes) row₀ row from₀ from any) where
+module _ (K : Kind) (M : Meaning) (x : Reading) (xs : Log) (r : Reading) (old row₀ row : List (Option Total)) (from₀ from : List (Option ℕ)) (any : Bool) (k : ℕ) (ready : Ready K M k x xs old) (f : Filled (EnteredBy K M k old r) (M .modes) row₀ row from₀ from any) where
   abbrev long : Log
   long = x ∷ xs ++ r ∷ []
 
@@ -71,7 +72,7 @@ module _ (K : Kind) (M : Meaning) (x : Reading) (xs : Log) (r : Reading) (old ro
   Mode t = ((totalAt row t ≡ None) × (fromAt from t ≡ None) × (Reachable K M long t → ⊥)) ⊎ ((s : ℕ) × (p : List ℕ) × (c : K .Cost) × (d : K .Cost) × Chosen K M (x ∷ xs) r t s p c d × (totalAt row t ≡ Some (K .carried d)) × (fromAt from t ≡ Some s))
 
   mode : (t : ℕ) → t < M .modes → Mode t
-  mode t l = let e = f .each t l in at (e .0) (e .1 x xs ready l) (e .2) (e .3)
+  mode t l = let e = f .each t l in at (e .way) (e .entered x xs ready l) (e .total) (e .from)
     where
       at : (b : Option Best) → EntersBy K M (x ∷ xs) r t b → totalAt row t ≡ totalOf b → fromAt from t ≡ fromOf b → Mode t
       at None h w s = inl (w, s, h)
@@ -174,3 +175,32 @@ some-mark (Some w) t = refl
 -- the same modes, counted otherwise
 pub filled-all : (P : ℕ → Option Total → Option ℕ → Type 0) (m n : ℕ) (row₀ row : List (Option Total)) (from₀ from : List (Option ℕ)) (any : Bool) → m ≡ n → Filled P m row₀ row from₀ from any → Filled P n row₀ row from₀ from any
 filled-all P m n row₀ row from₀ from any e f = subst (λ n. Filled P n row₀ row from₀ from any) e f
+
+both-some : (b : Option Best) → isSome (totalOf b) ≡ isSome (fromOf b)
+both-some None = refl
+both-some (Some b) = refl
+
+module _ (K : Kind) (M : Meaning) (n : ℕ) (old row₀ row : List (Option Total)) (r : Reading) (from₀ from : List (Option ℕ)) (any : Bool) (f : Filled (EnteredBy K M n old r) n row₀ row from₀ from any) where
+  pub next-marked : Marked n row from any
+  next-marked = record { same = λ t l. let e = f .each t l in ap isSome (e .total) ∙ both-some (e .way) ∙ ap isSome (sym (e .from)); tells = f .tells }
+
+  pub next-backed : AllBacked n old from
+  next-backed t s l e = let k = f .each t l in k .backed s (sym (k .from) ∙ e)
+
+marked : (w : Option Total) (t s : ℕ) → andThen w (λ _. Some t) ≡ Some s → s ≡ t
+marked None t s e = absurd (not-none s e)
+marked (Some w) t s e = sym (some-same t s e)
+
+module _ (K : Kind) (M : Meaning) (n : ℕ) (row₀ row : List (Option Total)) (r : Reading) (from₀ from : List (Option ℕ)) (any : Bool) (f : Filled (BegunBy K M r) n row₀ row from₀ from any) where
+  pub first-marked : Marked n row from any
+  first-marked = record { same = λ t l. some-mark (totalAt row t) t ∙ ap isSome (sym (f .each t l .1)); tells = f .tells }
+
+  pub first-themselves : AllThemselves n from
+  first-themselves t s l e = marked (totalAt row t) t s (sym (f .each t l .1) ∙ e)
+
+-- the better of two is backed if both are
+pub one-backed : (n s : ℕ) (row : List (Option Total)) (b r : Option Best) (a : Option Total) → s < n → (isSome a ≡ true → isSome (totalAt row s) ≡ true) → OneOf b a s r → Backed n row b → Backed n row r
+one-backed n s row b r a l some (inl e) back u i = back u (sym (ap fromOf e) ∙ i)
+one-backed n s row b r a l some (inr e) back u i =
+    let k = some-same s u (sym (e .1) ∙ i) in
+    (subst (λ s. s < n) k l, subst (λ s. isSome (totalAt row s) ≡ true) k (some (e .0)))

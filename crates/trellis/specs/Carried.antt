@@ -1,8 +1,11 @@
 -- Costs that may be missing, as they are carried.
 use mathlib.Core.Path.{_≡_}
+use mathlib.Core.Bool.{true}
+use mathlib.Core.Logic.{_⊎_}
 use mathlib.Core.List.{List, [], _∷_}
 use Prim.Native.Nat.{ℕ, _+_, _≤_}
 use lib.ListN.{length}
+use Rattle.std.specs.Options.{isSome}
 use Rattle.std.specs.declared.option.Option.{Option}
 use Rattle.std.specs.declared.option.Option.the-variants.{Some}
 use Rattle.cost.specs.declared.charge.Charge.{Charge}
@@ -56,3 +59,15 @@ Better K b a s r = (w : Way K) (o : Option (K .Cost)) → WayHasRoom K 0 w → H
 -- r is the way b with the charge h.
 abbrev pub Arrived : Kind → Option Best → Charge → Option Best → Type 0
 Arrived K b h r = (w : Way K) → WayHasRoom K 1 w → b ≡ carriedWay K w → r ≡ carriedWay K (and K w h)
+
+-- The total of a way, if there is one.
+abbrev pub totalOf : Option Best → Option Total
+totalOf o = andThen o (λ b. Some (b .total))
+
+-- The mode that a way comes from, if there is one.
+abbrev pub fromOf : Option Best → Option ℕ
+fromOf o = andThen o (λ b. Some (b .from))
+
+-- r is the best so far, or comes from s, which has a total.
+abbrev pub OneOf : Option Best → Option Total → ℕ → Option Best → Type 0
+OneOf b a s r = (r ≡ b) ⊎ ((isSome a ≡ true) × (fromOf r ≡ Some s))

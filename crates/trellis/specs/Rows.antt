@@ -1,10 +1,11 @@
 -- Rows of totals, one for each mode.
 use mathlib.Core.Path.{_≡_}
-use mathlib.Core.Bool.{Bool}
+use mathlib.Core.Bool.{Bool, true, cond}
 use mathlib.Core.List.{List, [], _∷_, _++_}
 use mathlib.Core.Logic.{_↔_}
 use Prim.Native.Nat.{ℕ, _≤_, _<_}
 use lib.ListN.{length, getD}
+use Rattle.std.specs.Options.{isSome}
 use Rattle.std.specs.Orderings.{When}
 use Rattle.std.specs.declared.option.Option.{Option}
 use Rattle.std.specs.declared.option.Option.the-variants.{Some, None}
@@ -15,7 +16,7 @@ use Rattle.viterbi.specs.Lists.{EndsIn}
 use Rattle.viterbi.specs.Paths.{Reading, Log, Reachable, CheapestTo, CheapestOf, Chosen, cost}
 use Rattle.viterbi.specs.Algorithm.{leastOf}
 use Rattle.trellis.specs.declared.best.Best.{Best}
-use Rattle.trellis.specs.Carried.{Way, from, carriedWay, HasRoom}
+use Rattle.trellis.specs.Carried.{Way, from, carriedWay, HasRoom, totalOf, fromOf}
 
 -- The most modes that a row has room for.
 abbrev pub MODES : ℕ
@@ -33,21 +34,21 @@ totalAt row t = getD row t None
 abbrev pub fromAt : List (Option ℕ) → ℕ → Option ℕ
 fromAt from t = getD from t None
 
--- The costs o of the modes are carried in the row, and n more charges can be added to each.
-abbrev pub Held : (K : Kind) → Meaning → ℕ → (ℕ → Option (K .Cost)) → List (Option Total) → Type 0
-Held K M n o row = (s : ℕ) → s < M .modes → (totalAt row s ≡ carriedOf K (o s)) × HasRoom K n (o s)
+-- The costs o of k modes are carried in the row, and n more charges can be added to each.
+abbrev pub Held : (K : Kind) → ℕ → ℕ → (ℕ → Option (K .Cost)) → List (Option Total) → Type 0
+Held K k n o row = (s : ℕ) → s < k → (totalAt row s ≡ carriedOf K (o s)) × HasRoom K n (o s)
 
 -- The way from s to t, before the reading is charged.
 abbrev pub passage : (K : Kind) → Meaning → (ℕ → Option (K .Cost)) → ℕ → ℕ → Way K
 passage K M o t s = from K (andThen (o s) (λ c. sum K c (M .passage s t ∷ []))) s
 
--- Of the ways from the first n modes to t, r is the first of least cost.
-abbrev pub Into : Kind → Meaning → List (Option Total) → ℕ → ℕ → Option Best → Type 0
-Into K M row t n r = (o : ℕ → Option (K .Cost)) → Held K M 2 o row → r ≡ carriedWay K (leastOf K n (passage K M o t))
+-- Of the ways from the first n of k modes to t, r is the first of least cost.
+abbrev pub Into : Kind → Meaning → ℕ → List (Option Total) → ℕ → ℕ → Option Best → Type 0
+Into K M k row t n r = (o : ℕ → Option (K .Cost)) → Held K k 2 o row → r ≡ carriedWay K (leastOf K n (passage K M o t))
 
--- Of the first n modes, r is the first of least cost.
-abbrev pub LeastIn : Kind → Meaning → List (Option Total) → ℕ → Option Best → Type 0
-LeastIn K M row n r = (o : ℕ → Option (K .Cost)) → Held K M 0 o row → r ≡ carriedWay K (leastOf K n (λ s. from K (o s) s))
+-- Of the first n of k modes, r is the first of least cost.
+abbrev pub LeastIn : Kind → ℕ → List (Option Total) → ℕ → Option Best → Type 0
+LeastIn K k row n r = (o : ℕ → Option (K .Cost)) → Held K k 0 o row → r ≡ carriedWay K (leastOf K n (λ s. from K (o s) s))
 
 module _ (K : Kind) (M : Meaning) where
   -- The row after the readings xs: each reachable mode has the total of its cheapest path, and no other mode has one.
@@ -60,20 +61,20 @@ module _ (K : Kind) (M : Meaning) where
   EntersBy xs r t None = Reachable K M (xs ++ r ∷ []) t → ⊥
   EntersBy xs r t (Some b) = (p : List ℕ) × (c : K .Cost) × (d : K .Cost) × Chosen K M xs r t (b .from) p c d × (b .total ≡ K .carried d)
 
-  -- The row stands after the readings x ∷ xs, which are no more than a log can have.
-  pub record Stood (x : Reading) (xs : Log) (row : List (Option Total)) : Type 0 where
-    pub fits : M .modes ≤ MODES
+  -- The row of n modes stands after the readings x ∷ xs, which are no more than a log can have.
+  pub record Stood (n : ℕ) (x : Reading) (xs : Log) (row : List (Option Total)) : Type 0 where
+    pub fits : n ≡ M .modes
     pub short : length (x ∷ xs) ≤ READINGS
     pub stands : Stands (x ∷ xs) row
 
   -- The same, and one more reading can be taken.
-  pub record Ready (x : Reading) (xs : Log) (row : List (Option Total)) : Type 0 where
-    pub stood : Stood x xs row
+  pub record Ready (n : ℕ) (x : Reading) (xs : Log) (row : List (Option Total)) : Type 0 where
+    pub stood : Stood n x xs row
     pub more : length (x ∷ xs) < READINGS
 
-  -- From the row old, the mode t is entered at the reading r as b says.
-  abbrev pub Entered : List (Option Total) → Reading → ℕ → Option Best → Type 0
-  Entered old r t b = (x : Reading) (xs : Log) → Ready x xs old → t < M .modes → EntersBy (x ∷ xs) r t b
+  -- From the row old of n modes, the mode t is entered at the reading r as b says.
+  abbrev pub Entered : ℕ → List (Option Total) → Reading → ℕ → Option Best → Type 0
+  Entered n old r t b = (x : Reading) (xs : Log) → Ready n x xs old → t < M .modes → EntersBy (x ∷ xs) r t b
 
   -- Whether a mode is reachable after the readings xs.
   abbrev pub Tells : Log → Bool → Type 0
@@ -96,14 +97,6 @@ module _ (K : Kind) (M : Meaning) where
   EndsAt xs None = (t : ℕ) → Reachable K M xs t → ⊥
   EndsAt xs (Some b) = (p : List ℕ) × (c : K .Cost) × CheapestOf K M xs p c × EndsIn p (b .from) × (b .total ≡ K .carried c)
 
--- The total of a way, if there is one.
-abbrev pub totalOf : Option Best → Option Total
-totalOf o = andThen o (λ b. Some (b .total))
-
--- The mode that a way comes from, if there is one.
-abbrev pub fromOf : Option Best → Option ℕ
-fromOf o = andThen o (λ b. Some (b .from))
-
 -- Beyond the modes a list is as it was.
 abbrev pub Beyond : {A : Type 0} → ℕ → List (Option A) → List (Option A) → Type 0
 Beyond n new old = (t : ℕ) → n ≤ t → getD new t None ≡ getD old t None
@@ -115,10 +108,31 @@ pub record Filled (P : ℕ → Option Total → Option ℕ → Type 0) (n : ℕ)
   pub beyond : Beyond n row row₀
   pub beyond-from : Beyond n from from₀
 
+-- The mode that b comes from is one of the first n, and has a total in the row.
+abbrev pub Backed : ℕ → List (Option Total) → Option Best → Type 0
+Backed n old b = (s : ℕ) → fromOf b ≡ Some s → (s < n) × (isSome (totalAt old s) ≡ true)
+
 -- The mode t is entered as its total w and its predecessor s say.
-abbrev pub EnteredBy : Kind → Meaning → List (Option Total) → Reading → ℕ → Option Total → Option ℕ → Type 0
-EnteredBy K M old r t w s = (b : Option Best) × Entered K M old r t b × (w ≡ totalOf b) × (s ≡ fromOf b)
+pub record EnteredBy (K : Kind) (M : Meaning) (n : ℕ) (old : List (Option Total)) (r : Reading) (t : ℕ) (w : Option Total) (s : Option ℕ) : Type 0 where
+  pub way : Option Best
+  pub entered : Entered K M n old r t way
+  pub backed : Backed n old way
+  pub total : w ≡ totalOf way
+  pub from : s ≡ fromOf way
 
 -- The mode t has the total w of one reading, and itself as predecessor s, where it is reachable.
 abbrev pub BegunBy : Kind → Meaning → Reading → ℕ → Option Total → Option ℕ → Type 0
 BegunBy K M r t w s = (w ≡ carriedOf K (cost K M (r ∷ []) (t ∷ []))) × (s ≡ andThen w (λ _. Some t))
+
+-- The modes below n have totals exactly where they have predecessors, and any says whether there is one.
+pub record Marked (n : ℕ) (row : List (Option Total)) (from : List (Option ℕ)) (any : Bool) : Type 0 where
+  pub same : (t : ℕ) → t < n → isSome (totalAt row t) ≡ isSome (fromAt from t)
+  pub tells : When any ((t : ℕ) × (t < n) × (s : ℕ) × (fromAt from t ≡ Some s)) ((t : ℕ) → t < n → fromAt from t ≡ None)
+
+-- Every predecessor is a mode below n that has a total in the old row.
+abbrev pub AllBacked : ℕ → List (Option Total) → List (Option ℕ) → Type 0
+AllBacked n old from = (t s : ℕ) → t < n → fromAt from t ≡ Some s → (s < n) × (isSome (totalAt old s) ≡ true)
+
+-- Every predecessor is the mode itself.
+abbrev pub AllThemselves : ℕ → List (Option ℕ) → Type 0
+AllThemselves n from = (t s : ℕ) → t < n → fromAt from t ≡ Some s → s ≡ t

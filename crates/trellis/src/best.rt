@@ -1,5 +1,9 @@
 ghost use mathlib.Core.Path.{_≡_};
-ghost use Rattle.trellis.specs.Carried.{Through, Better, Arrived};
+ghost use mathlib.Core.Bool.{true};
+ghost use Prim.Native.Nat.{ℕ};
+ghost use Rattle.std.specs.Options.{isSome};
+ghost use Rattle.std.specs.declared.option.Option.the-variants.{Some};
+ghost use Rattle.trellis.specs.Carried.{Through, Better, Arrived, OneOf, fromOf};
 use cost::Charge;
 use cost::CostKind;
 use cost::Total;
@@ -13,7 +17,8 @@ pub struct Best {
 
 /// The total with one more charge, if there is one.
 pub fn through<C: CostKind>(kind: &C, total: Option<Total>, passage: Charge) -> Option<Total>
-    ensures { λ r. ⌜ Through (C·CostKind .kind (now (kind .entry))) total passage r ⌝ }
+    ensures carried { λ r. ⌜ Through (C·CostKind .kind (now (kind .entry))) total passage r ⌝ }
+    ensures some { λ r. ⌜ (isSome r ≡ true → isSome total ≡ true) ⌝ }
 {
     kind.charged(total?, passage)
 }
@@ -25,7 +30,8 @@ pub fn better<C: CostKind>(
     next: Option<Total>,
     from: u8,
 ) -> Option<Best>
-    ensures { λ r. ⌜ Better (C·CostKind .kind (now (kind .entry))) best next from r ⌝ }
+    ensures carried { λ r. ⌜ Better (C·CostKind .kind (now (kind .entry))) best next from r ⌝ }
+    ensures one { λ r. ⌜ OneOf best next from r ⌝ }
 {
     let Some(total) = next else {
         return best;
@@ -44,7 +50,8 @@ pub fn better<C: CostKind>(
 
 /// The best way with the charge of the reading added.
 pub fn arrived<C: CostKind>(kind: &C, best: Option<Best>, reading: Charge) -> Option<Best>
-    ensures { λ r. ⌜ Arrived (C·CostKind .kind (now (kind .entry))) best reading r ⌝ }
+    ensures carried { λ r. ⌜ Arrived (C·CostKind .kind (now (kind .entry))) best reading r ⌝ }
+    ensures same { λ r. ⌜ ((s : ℕ) → fromOf r ≡ Some s → fromOf best ≡ Some s) ⌝ }
 {
     let Best { total, from } = best?;
     let total = kind.charged(total, reading)?;

@@ -3,6 +3,3 @@ mod best;
 mod row;
 
 pub use best::Best;
-pub use row::first_row;
-pub use row::least;
-pub use row::next_row;

@@ -1,10 +1,11 @@
 ghost use mathlib.Core.Path.{_≡_};
 ghost use mathlib.Core.List.{[], _∷_};
-ghost use Prim.Native.Nat.{ℕ, _≤_, _<_, min};
+ghost use Prim.Native.Nat.{ℕ, _≤_};
 ghost use Rattle.std.specs.declared.option.Option.the-variants.{Some};
 ghost use Rattle.cost.specs.Kind.{andThen, carriedOf};
 ghost use Rattle.viterbi.specs.Paths.{Reading, Log, cost};
-ghost use Rattle.trellis.specs.Rows.{MODES, Into, Entered, Ready, Stood, Next, First, EndsAt, Beyond, totalOf, fromOf};
+ghost use Rattle.trellis.specs.Rows.{MODES, Into, Entered, Backed, Ready, Stood, Next, First, EndsAt, Marked, AllBacked, AllThemselves, Beyond};
+ghost use Rattle.trellis.specs.Carried.{totalOf, fromOf};
 use super::best::Best;
 use super::best::arrived;
 use super::best::better;
@@ -13,24 +14,20 @@ use cost::CostKind;
 use cost::Total;
 use model::Model;
 
-/// The number of modes, or 32 if there are more.
-fn modes<M: Model>(model: &M) -> usize
-    ensures { λ r. ⌜ r ≡ min (M·Model .meaning (now (model .entry)) .modes) MODES ⌝ }
-{
-    model.modes().min(32)
-}
-
 /// The best way into mode `t`, before the reading is charged.
 fn into<M: Model, C: CostKind>(
     model: &M,
     kind: &C,
+    modes: usize,
     old: &[Option<Total>; 32],
     t: usize,
 ) -> Option<Best>
-    ensures { λ r. ⌜ Into (C·CostKind .kind (now (kind .entry))) (M·Model .meaning (now (model .entry))) (now (old .entry)) t (min (M·Model .meaning (now (model .entry)) .modes) MODES) r ⌝ }
+    requires { ⌜ modes ≤ MODES ⌝ }
+    ensures least { λ r. ⌜ Into (C·CostKind .kind (now (kind .entry))) (M·Model .meaning (now (model .entry))) modes (now (old .entry)) t modes r ⌝ }
+    ensures backed { λ r. ⌜ Backed modes (now (old .entry)) r ⌝ }
 {
     let mut best = None;
-    for s in 0..modes(model) {
+    for s in 0..modes {
         let next = through(kind, old[s], model.passage(s, t));
         best = better(kind, best, next, s as u8);
     }
@@ -41,13 +38,16 @@ fn into<M: Model, C: CostKind>(
 fn enter<M: Model, C: CostKind>(
     model: &M,
     kind: &C,
+    modes: usize,
     old: &[Option<Total>; 32],
     reading: usize,
     t: usize,
 ) -> Option<Best>
-    ensures { λ r. ⌜ Entered (C·CostKind .kind (now (kind .entry))) (M·Model .meaning (now (model .entry))) (now (old .entry)) reading t r ⌝ }
+    requires { ⌜ modes ≤ MODES ⌝ }
+    ensures entered { λ r. ⌜ Entered (C·CostKind .kind (now (kind .entry))) (M·Model .meaning (now (model .entry))) modes (now (old .entry)) reading t r ⌝ }
+    ensures backed { λ r. ⌜ Backed modes (now (old .entry)) r ⌝ }
 {
-    let best = into(model, kind, old, t);
+    let best = into(model, kind, modes, old, t);
     arrived(kind, best, model.reading(t, reading))
 }
 
@@ -84,18 +84,22 @@ fn from_of(best: Option<Best>) -> Option<u8>
 pub fn next_row<M: Model, C: CostKind>(
     model: &M,
     kind: &C,
+    modes: usize,
     old: &[Option<Total>; 32],
     reading: usize,
     new: &mut [Option<Total>; 32],
     from: &mut [Option<u8>; 32],
 ) -> bool
-    ensures next { λ r. ⌜ ((x : Reading) (xs : Log) → Ready (C·CostKind .kind (now (kind .entry))) (M·Model .meaning (now (model .entry))) x xs (now (old .entry)) → Next (C·CostKind .kind (now (kind .entry))) (M·Model .meaning (now (model .entry))) (x ∷ xs) reading (now (new .exit)) (now (from .exit)) r) ⌝ }
-    ensures beyond { λ _. ⌜ Beyond (M·Model .meaning (now (model .entry)) .modes) (now (new .exit)) (now (new .entry)) ⌝ }
-    ensures beyond_from { λ _. ⌜ Beyond (M·Model .meaning (now (model .entry)) .modes) (now (from .exit)) (now (from .entry)) ⌝ }
+    requires { ⌜ modes ≤ MODES ⌝ }
+    ensures next { λ r. ⌜ ((x : Reading) (xs : Log) → Ready (C·CostKind .kind (now (kind .entry))) (M·Model .meaning (now (model .entry))) modes x xs (now (old .entry)) → Next (C·CostKind .kind (now (kind .entry))) (M·Model .meaning (now (model .entry))) (x ∷ xs) reading (now (new .exit)) (now (from .exit)) r) ⌝ }
+    ensures marked { λ r. ⌜ Marked modes (now (new .exit)) (now (from .exit)) r ⌝ }
+    ensures backed { λ _. ⌜ AllBacked modes (now (old .entry)) (now (from .exit)) ⌝ }
+    ensures beyond { λ _. ⌜ Beyond modes (now (new .exit)) (now (new .entry)) ⌝ }
+    ensures beyond_from { λ _. ⌜ Beyond modes (now (from .exit)) (now (from .entry)) ⌝ }
 {
     let mut any = false;
-    for t in 0..modes(model) {
-        let best = enter(model, kind, old, reading, t);
+    for t in 0..modes {
+        let best = enter(model, kind, modes, old, reading, t);
         new[t] = total_of(best);
         from[t] = from_of(best);
         any |= best.is_some();
@@ -108,16 +112,20 @@ pub fn next_row<M: Model, C: CostKind>(
 pub fn first_row<M: Model, C: CostKind>(
     model: &M,
     kind: &C,
+    modes: usize,
     reading: usize,
     new: &mut [Option<Total>; 32],
     from: &mut [Option<u8>; 32],
 ) -> bool
-    ensures first { λ r. ⌜ (M·Model .meaning (now (model .entry)) .modes ≤ MODES → First (C·CostKind .kind (now (kind .entry))) (M·Model .meaning (now (model .entry))) reading (now (new .exit)) (now (from .exit)) r) ⌝ }
-    ensures beyond { λ _. ⌜ Beyond (M·Model .meaning (now (model .entry)) .modes) (now (new .exit)) (now (new .entry)) ⌝ }
-    ensures beyond_from { λ _. ⌜ Beyond (M·Model .meaning (now (model .entry)) .modes) (now (from .exit)) (now (from .entry)) ⌝ }
+    requires { ⌜ modes ≤ MODES ⌝ }
+    ensures first { λ r. ⌜ (modes ≡ M·Model .meaning (now (model .entry)) .modes → First (C·CostKind .kind (now (kind .entry))) (M·Model .meaning (now (model .entry))) reading (now (new .exit)) (now (from .exit)) r) ⌝ }
+    ensures marked { λ r. ⌜ Marked modes (now (new .exit)) (now (from .exit)) r ⌝ }
+    ensures themselves { λ _. ⌜ AllThemselves modes (now (from .exit)) ⌝ }
+    ensures beyond { λ _. ⌜ Beyond modes (now (new .exit)) (now (new .entry)) ⌝ }
+    ensures beyond_from { λ _. ⌜ Beyond modes (now (from .exit)) (now (from .entry)) ⌝ }
 {
     let mut any = false;
-    for t in 0..modes(model) {
+    for t in 0..modes {
         let total = begin(model, kind, reading, t);
         new[t] = total;
         from[t] = mark(total, t as u8);
@@ -137,11 +145,18 @@ fn mark(total: Option<Total>, mode: u8) -> Option<u8>
 }
 
 /// The last mode of the cheapest path of the log, with its total; `None` if no mode is reachable.
-pub fn least<M: Model, C: CostKind>(model: &M, kind: &C, row: &[Option<Total>; 32]) -> Option<Best>
-    ensures { λ r. ⌜ ((x : Reading) (xs : Log) → Stood (C·CostKind .kind (now (kind .entry))) (M·Model .meaning (now (model .entry))) x xs (now (row .entry)) → EndsAt (C·CostKind .kind (now (kind .entry))) (M·Model .meaning (now (model .entry))) (x ∷ xs) r) ⌝ }
+pub fn least_in<M: Model, C: CostKind>(
+    model: &M,
+    kind: &C,
+    modes: usize,
+    row: &[Option<Total>; 32],
+) -> Option<Best>
+    requires { ⌜ modes ≤ MODES ⌝ }
+    ensures ends { λ r. ⌜ ((x : Reading) (xs : Log) → Stood (C·CostKind .kind (now (kind .entry))) (M·Model .meaning (now (model .entry))) modes x xs (now (row .entry)) → EndsAt (C·CostKind .kind (now (kind .entry))) (M·Model .meaning (now (model .entry))) (x ∷ xs) r) ⌝ }
+    ensures backed { λ r. ⌜ Backed modes (now (row .entry)) r ⌝ }
 {
     let mut best = None;
-    for s in 0..modes(model) {
+    for s in 0..modes {
         best = better(kind, best, row[s], s as u8);
     }
     best
