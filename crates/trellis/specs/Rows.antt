@@ -1,6 +1,6 @@
 -- Rows of totals, one for each mode.
 use mathlib.Core.Path.{_≡_}
-use mathlib.Core.Bool.{Bool, true, cond}
+use mathlib.Core.Bool.{Bool, true}
 use mathlib.Core.List.{List, [], _∷_, _++_}
 use mathlib.Core.Logic.{_↔_}
 use Prim.Native.Nat.{ℕ, _≤_, _<_}
@@ -96,6 +96,14 @@ module _ (K : Kind) (M : Meaning) where
   abbrev pub EndsAt : Log → Option Best → Type 0
   EndsAt xs None = (t : ℕ) → Reachable K M xs t → ⊥
   EndsAt xs (Some b) = (p : List ℕ) × (c : K .Cost) × CheapestOf K M xs p c × EndsIn p (b .from) × (b .total ≡ K .carried c)
+
+  -- After every log at which the row of n modes stands, r is the end of its cheapest path.
+  abbrev pub Ends : ℕ → List (Option Total) → Option Best → Type 0
+  Ends n row r = (x : Reading) (xs : Log) → Stood n x xs row → EndsAt (x ∷ xs) r
+
+  -- After every log at which the row old of n modes stands, and the reading r, the new row, the predecessors and `any` are right.
+  abbrev pub Advances : ℕ → List (Option Total) → Reading → List (Option Total) → List (Option ℕ) → Bool → Type 0
+  Advances n old r row from any = (x : Reading) (xs : Log) → Ready n x xs old → Next (x ∷ xs) r row from any
 
 -- Beyond the modes a list is as it was.
 abbrev pub Beyond : {A : Type 0} → ℕ → List (Option A) → List (Option A) → Type 0

@@ -3,8 +3,8 @@ ghost use mathlib.Core.List.{[], _∷_};
 ghost use Prim.Native.Nat.{ℕ, _≤_};
 ghost use Rattle.std.specs.declared.option.Option.the-variants.{Some};
 ghost use Rattle.cost.specs.Kind.{andThen, carriedOf};
-ghost use Rattle.viterbi.specs.Paths.{Reading, Log, cost};
-ghost use Rattle.trellis.specs.Rows.{MODES, Into, Entered, Backed, Ready, Stood, Next, First, EndsAt, Marked, AllBacked, AllThemselves, Beyond};
+ghost use Rattle.viterbi.specs.Paths.{cost};
+ghost use Rattle.trellis.specs.Rows.{MODES, Into, Entered, Backed, Advances, First, Ends, Marked, AllBacked, AllThemselves, Beyond};
 ghost use Rattle.trellis.specs.Carried.{totalOf, fromOf};
 use super::best::Best;
 use super::best::arrived;
@@ -91,7 +91,7 @@ pub fn next_row<M: Model, C: CostKind>(
     from: &mut [Option<u8>; 32],
 ) -> bool
     requires { ⌜ modes ≤ MODES ⌝ }
-    ensures next { λ r. ⌜ ((x : Reading) (xs : Log) → Ready (C·CostKind .kind (now (kind .entry))) (M·Model .meaning (now (model .entry))) modes x xs (now (old .entry)) → Next (C·CostKind .kind (now (kind .entry))) (M·Model .meaning (now (model .entry))) (x ∷ xs) reading (now (new .exit)) (now (from .exit)) r) ⌝ }
+    ensures next { λ r. ⌜ Advances (C·CostKind .kind (now (kind .entry))) (M·Model .meaning (now (model .entry))) modes (now (old .entry)) reading (now (new .exit)) (now (from .exit)) r ⌝ }
     ensures marked { λ r. ⌜ Marked modes (now (new .exit)) (now (from .exit)) r ⌝ }
     ensures backed { λ _. ⌜ AllBacked modes (now (old .entry)) (now (from .exit)) ⌝ }
     ensures beyond { λ _. ⌜ Beyond modes (now (new .exit)) (now (new .entry)) ⌝ }
@@ -152,7 +152,7 @@ pub fn least_in<M: Model, C: CostKind>(
     row: &[Option<Total>; 32],
 ) -> Option<Best>
     requires { ⌜ modes ≤ MODES ⌝ }
-    ensures ends { λ r. ⌜ ((x : Reading) (xs : Log) → Stood (C·CostKind .kind (now (kind .entry))) (M·Model .meaning (now (model .entry))) modes x xs (now (row .entry)) → EndsAt (C·CostKind .kind (now (kind .entry))) (M·Model .meaning (now (model .entry))) (x ∷ xs) r) ⌝ }
+    ensures ends { λ r. ⌜ Ends (C·CostKind .kind (now (kind .entry))) (M·Model .meaning (now (model .entry))) modes (now (row .entry)) r ⌝ }
     ensures backed { λ r. ⌜ Backed modes (now (row .entry)) r ⌝ }
 {
     let mut best = None;
