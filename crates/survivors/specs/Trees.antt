@@ -1,0 +1,208 @@
+-- What the methods of the survivor tree keep and change.
+use mathlib.Core.Path.{_≡_}
+use mathlib.Core.Logic.{_≢_}
+use mathlib.Core.List.{List, [], _∷_, _++_, map}
+use Rattle.std.specs.declared.option.Option.{Option}
+use Rattle.std.specs.declared.option.Option.the-variants.{Some, None}
+use mathlib.Core.Bool.{Bool, true, false, cond}
+use Prim.Native.Nat.{ℕ, zero, suc, _+_, _-_, _%_, _^_, _<_, _≤_}
+use lib.ListN.{length, getD, set}
+use lib.Dec.{eqb, ltb}
+use Rattle.survivors.specs.Sums.{tally}
+use Rattle.survivors.specs.Cells.{Links, at, path, plus, Kept}
+use Rattle.survivors.specs.declared.tree.Cell.{Cell}
+use Rattle.survivors.specs.declared.tree.Tree.{Tree}
+
+-- a tip as a number: 1024 for none
+abbrev pub tipOf : Option ℕ → ℕ
+tipOf (Some x) = x
+tipOf None = 1024
+
+abbrev pub tipsOf : Tree → List ℕ
+tipsOf s = map tipOf (s .tips)
+
+-- a tip is a cell
+abbrev pub Real : List (Option ℕ) → Type 0
+Real tips = (u c : ℕ) → getD tips u None ≡ Some c → c < 1024
+
+-- the mode that a mode goes on from: 32 for none
+abbrev pub fromOf : Option ℕ → ℕ
+fromOf (Some x) = x
+fromOf None = 32
+
+abbrev pub chosen : List (Option ℕ) → List ℕ
+chosen preds = map fromOf preds
+
+-- the tree s, with h x references to the cell x from outside it
+abbrev pub Holds : Tree → (ℕ → ℕ) → Type 0
+Holds s h = Links (s .cells) (s .free) (s .room) (s .base) (s .top) (s .width) (s .first) h
+
+-- one reference to c has been given back
+pub record Released (s : Tree) (c : ℕ) (t : Tree) : Type 0 where
+  pub holds : (h : ℕ → ℕ) → Holds s (plus h c) → Holds t h
+  pub kept : Kept (s .cells) (t .cells)
+  pub base : t .base ≡ s .base
+  pub top : t .top ≡ s .top
+  pub tips : t .tips ≡ s .tips
+  pub modes : t .modes ≡ s .modes
+  pub room : s .room ≤ t .room
+
+-- a new cell i of the newest layer under the cell p, where there is an older layer
+pub record Attached (s : Tree) (m p i : ℕ) (t : Tree) : Type 0 where
+  pub holds : (h : ℕ → ℕ) → Holds s h → Holds t (plus h i)
+  pub below : i < 1024
+  pub was : at (s .cells) i .refs ≡ 0
+  pub used : (x : ℕ) → x < 1024 → x ≢ i → 0 < at (t .cells) x .refs → 0 < at (s .cells) x .refs
+  pub uses : (x : ℕ) → x < 1024 → x ≢ i → 0 < at (s .cells) x .refs → 0 < at (t .cells) x .refs
+  pub layer : (x : ℕ) → x < 1024 → x ≢ i → at (t .cells) x .layer ≡ at (s .cells) x .layer
+  pub parent : (x : ℕ) → x < 1024 → x ≢ i → at (t .cells) x .parent ≡ at (s .cells) x .parent
+  pub mode : (x : ℕ) → x < 1024 → x ≢ i → at (t .cells) x .mode ≡ at (s .cells) x .mode
+  pub newLayer : at (t .cells) i .layer ≡ s .top
+  pub newParent : at (t .cells) i .parent ≡ p
+  pub newMode : at (t .cells) i .mode ≡ m
+  pub base : t .base ≡ s .base
+  pub top : t .top ≡ s .top
+  pub tips : t .tips ≡ s .tips
+  pub modes : t .modes ≡ s .modes
+  pub room : t .room + 1 ≡ s .room
+
+-- a new cell of this mode can be attached under the cell p
+pub record Ready (s : Tree) (h : ℕ → ℕ) (m p : ℕ) : Type 0 where
+  pub holds : Holds s h
+  pub few : (x : ℕ) → h x ≤ 1024
+  pub small : m < 32
+  pub room : 0 < s .room
+  pub fresh : (x : ℕ) → x < 1024 → 0 < at (s .cells) x .refs → at (s .cells) x .layer ≡ s .top → at (s .cells) x .mode ≢ m
+  pub below : s .base < s .top → p < 1024
+  pub used : s .base < s .top → 0 < at (s .cells) p .refs
+  pub layer : s .base < s .top → at (s .cells) p .layer + 1 ≡ s .top
+
+-- how many modes have the cell x as their tip
+abbrev pub held : List ℕ → ℕ → ℕ
+held tips x = tally (λ u. cond (eqb (getD tips u 0) x) 1 0) 32
+
+-- the undecided modes of the path to the mode u, oldest first
+abbrev pub pathTo : Tree → ℕ → List ℕ
+pathTo s u = path (s .cells) (s .top - s .base) (getD (tipsOf s) u 0)
+
+-- tips of the modes below k
+pub record Tips (tips : List ℕ) (k : ℕ) : Type 0 where
+  pub many : length tips ≡ 32
+  pub each : (u : ℕ) → u < 32 → getD tips u 0 ≤ 1024
+  pub beyond : (u : ℕ) → u < 32 → k ≤ u → getD tips u 0 ≡ 1024
+
+-- the tree between two readings
+pub record Valid (s : Tree) : Type 0 where
+  pub holds : Holds s (held (tipsOf s))
+  pub tips : Tips (tipsOf s) (s .modes)
+  pub few : s .modes ≤ 32
+  pub real : Real (s .tips)
+  pub newest : (u : ℕ) → u < 32 → getD (tipsOf s) u 0 < 1024 → at (s .cells) (getD (tipsOf s) u 0) .layer + 1 ≡ s .top
+  pub ends : (u : ℕ) → u < 32 → getD (tipsOf s) u 0 < 1024 → at (s .cells) (getD (tipsOf s) u 0) .mode ≡ u
+  pub old : (x : ℕ) → x < 1024 → 0 < at (s .cells) x .refs → at (s .cells) x .layer < s .top
+  pub none : s .base ≡ s .top → (u : ℕ) → u < 32 → getD (tipsOf s) u 0 ≡ 1024
+  pub any : s .base < s .top → ((u : ℕ) → u < 32 → 1024 ≤ getD (tipsOf s) u 0) → ⊥
+
+-- the ring after the modes out are written at the places base, base + 1, ..
+abbrev pub written : List ℕ → ℕ → List ℕ → List ℕ
+written ring base [] = ring
+written ring base (m ∷ out) = written (set ring (base % 4096) m) (base + 1) out
+
+-- the modes out, with which every path began, are decided
+pub record Settling (s : Tree) (r : List ℕ) (t : Tree) (r′ : List ℕ) : Type 0 where
+  pub rest : Valid t
+  pub out : List ℕ
+  pub base : t .base ≡ s .base + length out
+  pub top : t .top ≡ s .top
+  pub ring : r′ ≡ written r (s .base) out
+  pub paths : (u : ℕ) → u < 32 → getD (tipsOf s) u 0 < 1024 → pathTo s u ≡ out ++ pathTo t u
+  pub tips : t .base < t .top → tipsOf t ≡ tipsOf s
+
+-- the tips and what h holds
+abbrev pub both : List ℕ → (ℕ → ℕ) → ℕ → ℕ
+both tips h x = held tips x + h x
+
+-- the references of the tips are given back
+pub record Shed (s : Tree) (t : Tree) : Type 0 where
+  pub holds : (h : ℕ → ℕ) → Holds s (both (tipsOf s) h) → Holds t h
+  pub kept : Kept (s .cells) (t .cells)
+  pub base : t .base ≡ s .base
+  pub top : t .top ≡ s .top
+  pub room : s .room ≤ t .room
+  pub modes : t .modes ≡ s .modes
+  pub tips : Tips (tipsOf t) 0
+  pub real : Real (t .tips)
+
+-- the tree s can take one more layer, in which the mode u goes on from the mode preds[u] (is not reachable where that is 32 or more)
+pub record Next (s : Tree) (preds : List ℕ) : Type 0 where
+  pub rest : Valid s
+  pub many : length preds ≤ 32
+  pub room : length preds ≤ s .room
+  pub bound : s .top + 1 < 2 ^ 32
+  pub some : (u : ℕ) × (u < length preds) × (getD preds u 0 < 32)
+  pub from : (u : ℕ) → u < length preds → getD preds u 0 < 32 → s .base < s .top → getD (tipsOf s) (getD preds u 0) 0 < 1024
+
+-- the first n modes have cells in the new layer
+pub record Sprout (o : Tree) (preds : List ℕ) (n : ℕ) (s : Tree) (new : List ℕ) : Type 0 where
+  pub holds : Holds s (both new (held (tipsOf o)))
+  pub tips : Tips new n
+  pub base : s .base ≡ o .base
+  pub top : s .top ≡ o .top
+  pub oldTips : tipsOf s ≡ tipsOf o
+  pub modes : s .modes ≡ o .modes
+  pub room : o .room ≤ s .room + n
+  pub young : (x : ℕ) → x < 1024 → 0 < at (s .cells) x .refs → at (s .cells) x .layer ≡ o .top → at (s .cells) x .mode < n
+  pub uses : (x : ℕ) → x < 1024 → 0 < at (o .cells) x .refs → 0 < at (s .cells) x .refs
+  pub layer : (x : ℕ) → x < 1024 → 0 < at (o .cells) x .refs → at (s .cells) x .layer ≡ at (o .cells) x .layer
+  pub parent : (x : ℕ) → x < 1024 → 0 < at (o .cells) x .refs → at (s .cells) x .parent ≡ at (o .cells) x .parent
+  pub mode : (x : ℕ) → x < 1024 → 0 < at (o .cells) x .refs → at (s .cells) x .mode ≡ at (o .cells) x .mode
+  pub reach : (u : ℕ) → u < n → getD preds u 0 < 32 → getD new u 0 < 1024
+  pub newLayer : (u : ℕ) → u < n → getD preds u 0 < 32 → at (s .cells) (getD new u 0) .layer ≡ o .top
+  pub newParent : (u : ℕ) → u < n → getD preds u 0 < 32 → at (s .cells) (getD new u 0) .parent ≡ getD (tipsOf o) (getD preds u 0) 0
+  pub newMode : (u : ℕ) → u < n → getD preds u 0 < 32 → at (s .cells) (getD new u 0) .mode ≡ u
+  pub unreach : (u : ℕ) → u < n → 32 ≤ getD preds u 0 → getD new u 0 ≡ 1024
+
+-- the tree has one more layer
+pub record Grown (s : Tree) (preds : List ℕ) (t : Tree) : Type 0 where
+  pub rest : Valid t
+  pub base : t .base ≡ s .base
+  pub top : t .top ≡ s .top + 1
+  pub tips : Tips (tipsOf t) (length preds)
+  pub reach : (u : ℕ) → u < length preds → getD preds u 0 < 32 → getD (tipsOf t) u 0 < 1024
+  pub unreach : (u : ℕ) → u < length preds → 32 ≤ getD preds u 0 → getD (tipsOf t) u 0 ≡ 1024
+  pub paths : (u : ℕ) → u < length preds → getD preds u 0 < 32 → pathTo t u ≡ pathTo s (getD preds u 0) ++ (u ∷ [])
+
+-- a tree with nothing in it
+pub record Blank (s : Tree) : Type 0 where
+  pub rest : Valid s
+  pub base : s .base ≡ 0
+  pub top : s .top ≡ 0
+  pub room : s .room ≡ 1024
+  pub tips : Tips (tipsOf s) 0
+
+-- two paths part at the oldest undecided reading
+pub record Apart (s : Tree) : Type 0 where
+  pub u : ℕ
+  pub v : ℕ
+  pub ul : u < 32
+  pub vl : v < 32
+  pub utip : getD (tipsOf s) u 0 < 1024
+  pub vtip : getD (tipsOf s) v 0 < 1024
+  pub differ : getD (pathTo s u) 0 32 ≢ getD (pathTo s v) 0 32
+
+-- whether the path to some mode below n has the mode m at the place j
+unfoldable pub meets : Tree → ℕ → ℕ → ℕ → Bool
+meets s j m zero = false
+meets s j m (suc n) = cond (ltb (getD (tipsOf s) n 0) 1024) (cond (eqb (getD (pathTo s n) j 32) m) true (meets s j m n)) (meets s j m n)
+
+-- the pairs of an undecided reading and a mode that lies on the path to some mode
+abbrev pub liveCells : Tree → ℕ
+liveCells s = tally (λ j. tally (λ m. cond (meets s j m 32) 1 0) 32) (s .top - s .base)
+
+-- the whole path to the mode best is decided, and nothing is left in the tree
+pub record Finished (s : Tree) (best : ℕ) (r : List ℕ) (t : Tree) (r′ : List ℕ) : Type 0 where
+  pub rest : Valid t
+  pub base : t .base ≡ s .top
+  pub top : t .top ≡ s .top
+  pub room : t .room ≡ 1024
+  pub ring : r′ ≡ written r (s .base) (pathTo s best)

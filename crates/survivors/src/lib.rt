@@ -1,0 +1,2 @@
+//! Survivors.
+mod tree;
