@@ -13,7 +13,7 @@ use Rattle.survivors.specs.Sums.{tally}
 use Rattle.survivors.specs.Cells.{void, at, owner, share, under, one, self, inUse, plus, poke, path, Shape, Stack, Links, Same, Kept}
 use Rattle.survivors.specs.declared.tree.Cell.{Cell}
 use Rattle.survivors.proofs.Tallies.{tally-same, tally-ge, tally-two, tally-some, tally-only, tally-none}
-use Rattle.survivors.proofs.Pokes.{poke-here, poke-other, poke-refs, poke-heirs, poke-same, share-none, share-mine, share-not, share-zero, owner-oldest, owner-parent, owner-used}
+use Rattle.survivors.proofs.Shares.{poke-here, poke-other, poke-refs, poke-heirs, poke-same, share-none, share-mine, share-not, share-zero, owner-oldest, owner-parent, owner-used}
 use Rattle.survivors.proofs.Freed.{Gone, gone-kept, stack-more}
 
 module _ (cs : List Cell) (free : List ℕ) (room base top width first : ℕ) (h : ℕ → ℕ) (t : Links cs free room base top width first h) where

@@ -10,11 +10,11 @@ use lib.ListN.{length, getD, set, replicate}
 use Rattle.std.proofs.shelf.Tests.{cases-eq, cases-lt}
 use Rattle.std.proofs.shelf.Lists.{length-set, getD-set-same, getD-set-other, length-replicate, getD-replicate, getD-map}
 use Rattle.survivors.specs.Cells.{at, path, plus, owner, under, one, Links, Kept}
-use Rattle.survivors.specs.Trees.{tipOf, tipsOf, Real, chosen, fromOf, Holds, held, both, Valid, Tips, Attached, Ready, Next, Sprout, Shed, Grown, pathTo}
+use Rattle.survivors.specs.Trees.{tipOf, tipsOf, Real, chosen, fromOf, Holds, held, both, Valid, Tips, Attached, Ready, Next, Sprout, Shed, Layered, pathOf}
 use Rattle.survivors.specs.declared.tree.Cell.{Cell}
 use Rattle.survivors.specs.declared.tree.Tree.{Tree}
-use Rattle.survivors.proofs.Pokes.{owner-parent, owner-used}
-use Rattle.survivors.proofs.Rests.{held-none}
+use Rattle.survivors.proofs.Shares.{owner-parent, owner-used}
+use Rattle.survivors.proofs.Decides.{held-none}
 use Rattle.survivors.proofs.Tips.{tree-held, held-bound, held-some, held-put, tips-set}
 
 pub tips-more : (tips : List ℕ) (n : ℕ) → Tips tips n → Tips tips (n + 1)
@@ -237,7 +237,7 @@ module _ (o : Tree) (preds : List ℕ) (x : Next o preds) (s : Tree) (raw : List
     any = λ _ no-tip. let a = x .some in omega (arith, no-tip (a .0) (omega (arith, a .1, x .many)), g .reach (a .0) (a .1) (a .2));
   }
 
-  paths-more : (u : ℕ) → u < length preds → getD preds u 0 < 32 → pathTo fresh u ≡ pathTo o (getD preds u 0) ++ (u ∷ [])
+  paths-more : (u : ℕ) → u < length preds → getD preds u 0 < 32 → pathOf fresh u ≡ pathOf o (getD preds u 0) ++ (u ∷ [])
   paths-more u ul k =
       let m = g .reach u ul k in
       let n = o .top - o .base in
@@ -250,7 +250,7 @@ module _ (o : Tree) (preds : List ℕ) (x : Next o preds) (s : Tree) (raw : List
       ∙ ap (λ (y : ℕ). path (t .cells) n c ++ (y ∷ [])) r
       ∙ ap (λ (z : List ℕ). z ++ (u ∷ [])) (old-path (cases-lt (o .base) (o .top)))
     where
-      old-path : ((o .base < o .top) ⊎ (o .top ≤ o .base)) → path (t .cells) (o .top - o .base) (getD (tipsOf o) (getD preds u 0) 0) ≡ pathTo o (getD preds u 0)
+      old-path : ((o .base < o .top) ⊎ (o .top ≤ o .base)) → path (t .cells) (o .top - o .base) (getD (tipsOf o) (getD preds u 0) 0) ≡ pathOf o (getD preds u 0)
       old-path (inr z) =
           let e : o .top - o .base ≡ 0 = omega arith in
           rw e refl
@@ -264,7 +264,7 @@ module _ (o : Tree) (preds : List ℕ) (x : Next o preds) (s : Tree) (raw : List
           (λ y yl w. d .kept .same .mode y yl ∙ g .mode y yl w)
           n c m (tip-used o (x .rest) (getD preds u 0) k m) (omega (arith, x .rest .newest (getD preds u 0) k m)))
 
-  pub grown-all : Grown o preds fresh
+  pub grown-all : Layered o preds fresh
   grown-all = record {
     rest = fresh-rest;
     base = d .base ∙ g .base;

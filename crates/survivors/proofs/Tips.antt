@@ -17,8 +17,8 @@ use Rattle.survivors.specs.Trees.{tipOf, tipsOf, Real, Holds, held, both, Tips
 use Rattle.survivors.specs.declared.tree.Cell.{Cell}
 use Rattle.survivors.specs.declared.tree.Tree.{Tree}
 use Rattle.survivors.proofs.Tallies.{tally-change, tally-ge, tally-none, tally-bound}
-use Rattle.survivors.proofs.Pokes.{plus-here, plus-other, same-same, kept-kept}
-use Rattle.survivors.proofs.Rests.{held-none}
+use Rattle.survivors.proofs.Shares.{plus-here, plus-other, same-same, kept-kept}
+use Rattle.survivors.proofs.Decides.{held-none}
 
 -- only what is held of the cells matters
 pub tree-held : (cs : List Cell) (free : List ℕ) (room base top width first : ℕ) (h h′ : ℕ → ℕ) → ((x : ℕ) → x < 1024 → h x ≡ h′ x) → Links cs free room base top width first h → Links cs free room base top width first h′

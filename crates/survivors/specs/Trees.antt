@@ -9,6 +9,7 @@ use Prim.Native.Nat.{ℕ, zero, suc, _+_, _-_, _%_, _^_, _<_, _≤_}
 use lib.ListN.{length, getD, set}
 use lib.Dec.{eqb, ltb}
 use Rattle.survivors.specs.Sums.{tally}
+use Rattle.survivors.specs.Ring.{Written}
 use Rattle.survivors.specs.Cells.{Links, at, path, plus, Kept}
 use Rattle.survivors.specs.declared.tree.Cell.{Cell}
 use Rattle.survivors.specs.declared.tree.Tree.{Tree}
@@ -82,8 +83,8 @@ abbrev pub held : List ℕ → ℕ → ℕ
 held tips x = tally (λ u. cond (eqb (getD tips u 0) x) 1 0) 32
 
 -- the undecided modes of the path to the mode u, oldest first
-abbrev pub pathTo : Tree → ℕ → List ℕ
-pathTo s u = path (s .cells) (s .top - s .base) (getD (tipsOf s) u 0)
+abbrev pub pathOf : Tree → ℕ → List ℕ
+pathOf s u = path (s .cells) (s .top - s .base) (getD (tipsOf s) u 0)
 
 -- tips of the modes below k
 pub record Tips (tips : List ℕ) (k : ℕ) : Type 0 where
@@ -103,20 +104,15 @@ pub record Valid (s : Tree) : Type 0 where
   pub none : s .base ≡ s .top → (u : ℕ) → u < 32 → getD (tipsOf s) u 0 ≡ 1024
   pub any : s .base < s .top → ((u : ℕ) → u < 32 → 1024 ≤ getD (tipsOf s) u 0) → ⊥
 
--- the ring after the modes out are written at the places base, base + 1, ..
-abbrev pub written : List ℕ → ℕ → List ℕ → List ℕ
-written ring base [] = ring
-written ring base (m ∷ out) = written (set ring (base % 4096) m) (base + 1) out
-
 -- the modes out, with which every path began, are decided
 pub record Settling (s : Tree) (r : List ℕ) (t : Tree) (r′ : List ℕ) : Type 0 where
   pub rest : Valid t
   pub out : List ℕ
   pub base : t .base ≡ s .base + length out
   pub top : t .top ≡ s .top
-  pub ring : r′ ≡ written r (s .base) out
-  pub paths : (u : ℕ) → u < 32 → getD (tipsOf s) u 0 < 1024 → pathTo s u ≡ out ++ pathTo t u
-  pub tips : t .base < t .top → tipsOf t ≡ tipsOf s
+  pub ring : Written r (s .base) out r′
+  pub paths : (u : ℕ) → u < 32 → getD (tipsOf s) u 0 < 1024 → pathOf s u ≡ out ++ pathOf t u
+  pub tips : t .base < t .top → t .tips ≡ s .tips
 
 -- the tips and what h holds
 abbrev pub both : List ℕ → (ℕ → ℕ) → ℕ → ℕ
@@ -163,21 +159,20 @@ pub record Sprout (o : Tree) (preds : List ℕ) (n : ℕ) (s : Tree) (new : List
   pub unreach : (u : ℕ) → u < n → 32 ≤ getD preds u 0 → getD new u 0 ≡ 1024
 
 -- the tree has one more layer
-pub record Grown (s : Tree) (preds : List ℕ) (t : Tree) : Type 0 where
+pub record Layered (s : Tree) (preds : List ℕ) (t : Tree) : Type 0 where
   pub rest : Valid t
   pub base : t .base ≡ s .base
   pub top : t .top ≡ s .top + 1
   pub tips : Tips (tipsOf t) (length preds)
   pub reach : (u : ℕ) → u < length preds → getD preds u 0 < 32 → getD (tipsOf t) u 0 < 1024
   pub unreach : (u : ℕ) → u < length preds → 32 ≤ getD preds u 0 → getD (tipsOf t) u 0 ≡ 1024
-  pub paths : (u : ℕ) → u < length preds → getD preds u 0 < 32 → pathTo t u ≡ pathTo s (getD preds u 0) ++ (u ∷ [])
+  pub paths : (u : ℕ) → u < length preds → getD preds u 0 < 32 → pathOf t u ≡ pathOf s (getD preds u 0) ++ (u ∷ [])
 
 -- a tree with nothing in it
-pub record Blank (s : Tree) : Type 0 where
+pub record Cleared (s : Tree) : Type 0 where
   pub rest : Valid s
   pub base : s .base ≡ 0
   pub top : s .top ≡ 0
-  pub room : s .room ≡ 1024
   pub tips : Tips (tipsOf s) 0
 
 -- two paths part at the oldest undecided reading
@@ -188,21 +183,11 @@ pub record Apart (s : Tree) : Type 0 where
   pub vl : v < 32
   pub utip : getD (tipsOf s) u 0 < 1024
   pub vtip : getD (tipsOf s) v 0 < 1024
-  pub differ : getD (pathTo s u) 0 32 ≢ getD (pathTo s v) 0 32
-
--- whether the path to some mode below n has the mode m at the place j
-unfoldable pub meets : Tree → ℕ → ℕ → ℕ → Bool
-meets s j m zero = false
-meets s j m (suc n) = cond (ltb (getD (tipsOf s) n 0) 1024) (cond (eqb (getD (pathTo s n) j 32) m) true (meets s j m n)) (meets s j m n)
-
--- the pairs of an undecided reading and a mode that lies on the path to some mode
-abbrev pub liveCells : Tree → ℕ
-liveCells s = tally (λ j. tally (λ m. cond (meets s j m 32) 1 0) 32) (s .top - s .base)
+  pub differ : getD (pathOf s u) 0 0 ≢ getD (pathOf s v) 0 0
 
 -- the whole path to the mode best is decided, and nothing is left in the tree
-pub record Finished (s : Tree) (best : ℕ) (r : List ℕ) (t : Tree) (r′ : List ℕ) : Type 0 where
+pub record Ended (s : Tree) (best : ℕ) (r : List ℕ) (t : Tree) (r′ : List ℕ) : Type 0 where
   pub rest : Valid t
   pub base : t .base ≡ s .top
   pub top : t .top ≡ s .top
-  pub room : t .room ≡ 1024
-  pub ring : r′ ≡ written r (s .base) (pathTo s best)
+  pub ring : Written r (s .base) (pathOf s best) r′

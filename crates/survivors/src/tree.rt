@@ -4,7 +4,7 @@ ghost use Prim.Native.Nat.{ℕ, _<_, _≤_};
 ghost use lib.ListN.{length, getD};
 ghost use Rattle.std.specs.declared.option.Option.the-variants.{None, Some};
 ghost use Rattle.survivors.specs.Cells.{plus};
-ghost use Rattle.survivors.specs.Trees.{Apart, Attached, Blank, Finished, Grown, Holds, Next, Ready, Real, Released, Settling, Shed, Sprout, Tips, Valid, both, chosen, tipOf, tipsOf};
+ghost use Rattle.survivors.specs.Trees.{Apart, Attached, Cleared, Ended, Layered, Holds, Next, Ready, Real, Released, Settling, Shed, Sprout, Tips, Valid, both, chosen, tipOf, tipsOf};
 
 /// A mode at a reading, on the path of some tip.
 #[derive(Clone, Copy)]
@@ -53,7 +53,7 @@ pub struct Tree {
 
 impl Tree {
     pub fn new() -> Self
-        ensures { λ r. ⌜ Blank r ⌝ }
+        ensures { λ r. ⌜ Cleared r ⌝ }
     {
         let mut free = [0u16; 1024];
         for i in 0..1024usize {
@@ -183,7 +183,7 @@ impl Tree {
     pub fn grow(&mut self, preds: &[Option<u8>])
         requires next { ⌜ Next (now self) (chosen (now preds)) ⌝ }
         requires modes { ⌜ ((u x : ℕ) → u < length (now preds) → getD (now preds) u None ≡ Some x → x < 32) ⌝ }
-        ensures { λ _. ⌜ Grown (now (self .entry)) (chosen (now (preds .entry))) (now (self .exit)) ⌝ }
+        ensures { λ _. ⌜ Layered (now (self .entry)) (chosen (now (preds .entry))) (now (self .exit)) ⌝ }
     {
         let mut tips = [None; 32];
         self.sprout(preds, &mut tips);
@@ -223,7 +223,7 @@ impl Tree {
         requires valid { ⌜ Valid (now self) ⌝ }
         requires mode { ⌜ best < now self .modes ⌝ }
         requires tip { ⌜ getD (tipsOf (now self)) best 0 < 1024 ⌝ }
-        ensures { λ _. ⌜ Finished (now (self .entry)) best (now (ring .entry)) (now (self .exit)) (now (ring .exit)) ⌝ }
+        ensures { λ _. ⌜ Ended (now (self .entry)) best (now (ring .entry)) (now (self .exit)) (now (ring .exit)) ⌝ }
     {
         let tip = self.tips[best];
         self.tips[best] = None;
@@ -235,7 +235,7 @@ impl Tree {
     /// Frees every cell, and counts readings from 0 again.
     pub fn clear(&mut self)
         requires { ⌜ Valid (now self) ⌝ }
-        ensures { λ _. ⌜ Blank (now (self .exit)) ⌝ }
+        ensures { λ _. ⌜ Cleared (now (self .exit)) ⌝ }
     {
         self.shed();
         self.base = 0;

@@ -7,9 +7,9 @@ use Rattle.survivors.specs.Cells.{at, plus, one, self, under, Links}
 use Rattle.survivors.specs.Trees.{Holds, Attached, Ready}
 use Rattle.survivors.specs.declared.tree.Tree.{Tree}
 use Rattle.survivors.specs.declared.tree.Cell.{Cell}
-use Rattle.survivors.proofs.Pokes.{under-one-bound, under-self-bound}
-use Rattle.survivors.proofs.Comes.{Come, come-used, come-uses}
-use Rattle.survivors.proofs.Puts.{slot, slot-free, put, put-here, root-come, root, p-refs, p-heirs, hung, hung-here, hung-come, below}
+use Rattle.survivors.proofs.Shares.{under-one-bound, under-self-bound}
+use Rattle.survivors.proofs.Arrivals.{Come, come-used, come-uses}
+use Rattle.survivors.proofs.Attaches.{slot, slot-free, put, put-here, root-come, root, p-refs, p-heirs, hung, hung-here, hung-come, below}
 use Rattle.survivors.proofs.tree.Tree.attach.Needs as need
 
 pub add-self : need.add-self

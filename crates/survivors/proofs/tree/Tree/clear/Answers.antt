@@ -4,7 +4,7 @@ use native.Mathlib.Omega.{arith}
 use Rattle.survivors.specs.Trees.{Holds, held, both, tipsOf}
 use Rattle.survivors.specs.declared.tree.Tree.{Tree}
 use Rattle.survivors.proofs.Tips.{tree-held}
-use Rattle.survivors.proofs.Blanks.{empty, bare-cells}
+use Rattle.survivors.proofs.Empties.{empty, bare-cells}
 use Rattle.survivors.proofs.tree.Tree.clear.Needs as need
 
 loose : (s : Tree) → Holds s (held (tipsOf s)) → Holds s (both (tipsOf s) (λ _. 0))

@@ -8,7 +8,7 @@ use Rattle.std.proofs.shelf.Lists.{getD-map, length-map}
 use Rattle.survivors.specs.Trees.{tipOf, Valid}
 use Rattle.survivors.specs.declared.tree.Tree.{Tree}
 use Rattle.survivors.proofs.Tips.{real-set}
-use Rattle.survivors.proofs.Ends.{shed-by, shed-tips, alone-rest, finished}
+use Rattle.survivors.proofs.Finishes.{shed-by, shed-tips, alone-rest, finished}
 use Rattle.survivors.proofs.tree.Tree.finish.Needs as need
 
 long : (s : Tree) → Valid s → (best : ℕ) → best < s .modes → best < length (s .tips)

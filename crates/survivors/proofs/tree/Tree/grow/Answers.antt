@@ -5,7 +5,7 @@ use native.Mathlib.Omega.{arith}
 use lib.ListN.{set, length}
 use Rattle.survivors.specs.Trees.{Real, both, held, chosen, fromOf, tipOf, tipsOf, Sprout, Tips}
 use Rattle.std.proofs.shelf.Lists.{length-map}
-use Rattle.survivors.proofs.Rests.{blank-tips, no-tips}
+use Rattle.survivors.proofs.Decides.{blank-tips, no-tips}
 use Rattle.survivors.specs.declared.tree.Tree.{Tree}
 use Rattle.survivors.proofs.Sprouts.{holding, grown-all}
 use Rattle.survivors.proofs.tree.Tree.grow.Needs as need

@@ -6,8 +6,8 @@ use lib.ListN.{length, getD, set, replicate}
 use Rattle.std.proofs.shelf.Tests.{cases-eq}
 use Rattle.std.proofs.shelf.Lists.{length-set, getD-set-same, getD-set-other, length-replicate}
 use Rattle.survivors.specs.Cells.{void}
-use Rattle.survivors.proofs.Rests.{blank-tips, no-tips}
-use Rattle.survivors.proofs.Blanks.{empty, full, idle-cells}
+use Rattle.survivors.proofs.Decides.{blank-tips, no-tips}
+use Rattle.survivors.proofs.Empties.{empty, full, idle-cells}
 use Rattle.survivors.proofs.tree.Tree.new.Needs as need
 
 pub loop-i-again : need.loop-i-again

@@ -6,9 +6,9 @@ use native.Mathlib.Omega.{arith}
 use Rattle.survivors.specs.Cells.{at, plus, Kept, Links}
 use Rattle.survivors.specs.Trees.{Holds, Released}
 use Rattle.survivors.specs.declared.tree.Tree.{Tree}
-use Rattle.survivors.proofs.Pokes.{kept-kept}
+use Rattle.survivors.proofs.Shares.{kept-kept}
 use Rattle.survivors.proofs.Freed.{gone-kept}
-use Rattle.survivors.proofs.Backs.{some, room-left, stay-kept, stay, low-gone, low-heirs, width-left, first-left, end, p-below, heirs-left, moved-gone, on, falls}
+use Rattle.survivors.proofs.Releases.{some, room-left, stay-kept, stay, low-gone, low-heirs, width-left, first-left, end, p-below, heirs-left, moved-gone, on, falls}
 use Rattle.survivors.proofs.tree.Tree.release.Needs as need
 
 pub returns-then-old-gt1 : need.returns-then-old-gt1

@@ -2,8 +2,8 @@ use Prim.Native.Nat.{ℕ, _+_, _-_, _<_, _≤_}
 use native.Mathlib.Omega.{arith}
 use Rattle.survivors.specs.Trees.{Valid, Settling}
 use Rattle.survivors.specs.declared.tree.Tree.{Tree}
-use Rattle.survivors.proofs.Rests.{first-below, room-below, deep, settle-on, settle-end}
-use Rattle.survivors.proofs.Lines.{parted}
+use Rattle.survivors.proofs.Decides.{first-below, room-below, deep, settle-on, settle-end}
+use Rattle.survivors.proofs.Paths.{parted}
 use Rattle.survivors.proofs.tree.Tree.settle.Needs as need
 
 pub index-self-r : need.index-self-r
@@ -22,13 +22,13 @@ pub add-self-in-down : need.add-self-in-down
 add-self-in-down c = omega (arith, deep (c .down .self) (c .down .inv .rest) (c .down-test .taken))
 
 pub down-again-then-self : need.down-again-then-self
-down-again-then-self c = settle-end (c .args .self .now) (c .args .ring .now) (c .down .self) (c .down .ring) (c .down .inv) (c .down-test .taken) (c .if-self .taken)
+down-again-then-self c = settle-end (c .args .self .now) (c .args .ring .now) (c .down .self) (c .down .ring) (c .down .inv) (c .told-ring) (c .down-test .taken) (c .if-self .taken)
 
 pub down-less : need.down-less
 down-less c = omega (arith, deep (c .down .self) (c .down .inv .rest) (c .down-test .taken))
 
 pub down-again : need.down-again
-down-again c = settle-on (c .args .self .now) (c .args .ring .now) (c .down .self) (c .down .ring) (c .down .inv) (c .down-test .taken) (c .if-self .left)
+down-again c = settle-on (c .args .self .now) (c .args .ring .now) (c .down .self) (c .down .ring) (c .down .inv) (c .told-ring) (c .down-test .taken) (c .if-self .left)
 
 pub returns : need.returns
 returns c = record {

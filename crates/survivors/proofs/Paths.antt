@@ -11,11 +11,11 @@ use Rattle.std.proofs.shelf.Tests.{cases-eq, cases-lt, eq-eqb, ne-eqb}
 use Rattle.std.proofs.shelf.Lists.{length-push, getD-push, getD-append-left}
 use Rattle.survivors.specs.Sums.{tally}
 use Rattle.survivors.specs.Cells.{at, path, plus, owner, share, under, one, self, Links, Kept}
-use Rattle.survivors.specs.Trees.{tipOf, tipsOf, Holds, held, Valid, Apart, pathTo}
+use Rattle.survivors.specs.Trees.{tipOf, tipsOf, Holds, held, Valid, Apart, pathOf}
 use Rattle.survivors.specs.declared.tree.Cell.{Cell}
 use Rattle.survivors.specs.declared.tree.Tree.{Tree}
 use Rattle.survivors.proofs.Tallies.{tally-ge, tally-some, tally-pair}
-use Rattle.survivors.proofs.Pokes.{owner-oldest, owner-parent, owner-used, share-mine, share-bound}
+use Rattle.survivors.proofs.Shares.{owner-oldest, owner-parent, owner-used, share-mine, share-bound}
 use Rattle.survivors.proofs.Roots.{seen, oldest-by}
 use Rattle.survivors.proofs.Tips.{held-some}
 use Rattle.survivors.proofs.Sprouts.{tip-used}
@@ -33,7 +33,7 @@ path-length : (cs : List Cell) (n c : ℕ) → length (path cs n c) ≡ n
 path-length cs zero c = refl
 path-length cs (suc n) c = omega (arith, length-push (path cs n (at cs c .parent)) (at cs c .mode), path-length cs n (at cs c .parent))
 
-pub path-at : (cs : List Cell) (n j c : ℕ) → j < suc n → getD (path cs (suc n) c) j 32 ≡ at cs (above cs (n - j) c) .mode
+pub path-at : (cs : List Cell) (n j c : ℕ) → j < suc n → getD (path cs (suc n) c) j 0 ≡ at cs (above cs (n - j) c) .mode
 path-at cs zero j c l =
     let e : j ≡ 0 = omega arith in
     rw e refl
@@ -41,12 +41,12 @@ path-at cs (suc n) j c l =
     ⊎-elim
     (λ (e : j ≡ suc n).
     let z : suc n - j ≡ 0 = omega arith in
-    getD-push (path cs (suc n) (at cs c .parent)) (at cs c .mode) 32 j (path-length cs (suc n) (at cs c .parent) ∙ sym e)
+    getD-push (path cs (suc n) (at cs c .parent)) (at cs c .mode) 0 j (path-length cs (suc n) (at cs c .parent) ∙ sym e)
     ∙ sym (ap (λ (k : ℕ). at cs (above cs k c) .mode) z))
     (λ (ne : j ≡ suc n → ⊥).
     let jl : j < suc n = omega arith in
     let z : suc n - j ≡ suc (n - j) = omega arith in
-    getD-append-left (path cs (suc n) (at cs c .parent)) (at cs c .mode ∷ []) 32 j (omega (arith, path-length cs (suc n) (at cs c .parent)))
+    getD-append-left (path cs (suc n) (at cs c .parent)) (at cs c .mode ∷ []) 0 j (omega (arith, path-length cs (suc n) (at cs c .parent)))
     ∙ path-at cs n j (at cs c .parent) jl
     ∙ ap (λ (y : ℕ). at cs y .mode) (above-parent cs (n - j) c)
     ∙ sym (ap (λ (k : ℕ). at cs (above cs k c) .mode) z))
@@ -125,7 +125,7 @@ module _ (s : Tree) (r : Valid s) where
       (cases-lt 0 (held (tipsOf s) x))
 
   -- what a cell in use is on the path of some mode
-  pub on-place : (j x : ℕ) → x < 1024 → 0 < at cs x .refs → at cs x .layer ≡ s .base + j → (u : ℕ) × (u < 32) × (getD (tipsOf s) u 0 < 1024) × (getD (pathTo s u) j 32 ≡ at cs x .mode)
+  pub on-place : (j x : ℕ) → x < 1024 → 0 < at cs x .refs → at cs x .layer ≡ s .base + j → (u : ℕ) × (u < 32) × (getD (tipsOf s) u 0 < 1024) × (getD (pathOf s u) j 0 ≡ at cs x .mode)
   on-place j x l u e =
       let lt = r .old x l u in
       let n = s .top - (s .base + 1) in
@@ -135,13 +135,13 @@ module _ (s : Tree) (r : Valid s) where
         p .0,
         p .1,
         p .2,
-        ap (λ (d : ℕ). getD (path cs d (getD (tipsOf s) (p .0) 0)) j 32) z
+        ap (λ (d : ℕ). getD (path cs d (getD (tipsOf s) (p .0) 0)) j 0) z
             ∙ path-at cs n j (getD (tipsOf s) (p .0) 0) jl
             ∙ ap (λ (y : ℕ). at cs y .mode) (p .3),
       )
 
   -- and what is on the path of a mode is a cell in use
-  pub at-place : (j u : ℕ) → u < 32 → getD (tipsOf s) u 0 < 1024 → s .base + j < s .top → (x : ℕ) × (x < 1024) × (0 < at cs x .refs) × (at cs x .layer ≡ s .base + j) × (getD (pathTo s u) j 32 ≡ at cs x .mode)
+  pub at-place : (j u : ℕ) → u < 32 → getD (tipsOf s) u 0 < 1024 → s .base + j < s .top → (x : ℕ) × (x < 1024) × (0 < at cs x .refs) × (at cs x .layer ≡ s .base + j) × (getD (pathOf s u) j 0 ≡ at cs x .mode)
   at-place j u l m d =
       let n = s .top - (s .base + 1) in
       let z : s .top - s .base ≡ suc n = omega arith in
@@ -151,7 +151,7 @@ module _ (s : Tree) (r : Valid s) where
         a .0,
         a .1,
         a .2,
-        ap (λ (d : ℕ). getD (path cs d (getD (tipsOf s) u 0)) j 32) z ∙ path-at cs n j (getD (tipsOf s) u 0) jl,
+        ap (λ (d : ℕ). getD (path cs d (getD (tipsOf s) u 0)) j 0) z ∙ path-at cs n j (getD (tipsOf s) u 0) jl,
       )
 
   -- where the oldest layer has not one cell, two paths part

@@ -13,7 +13,7 @@ use Rattle.survivors.specs.Sums.{tally}
 use Rattle.survivors.specs.Cells.{void, at, owner, share, under, one, self, inUse, plus, poke, Shape, Stack, Links}
 use Rattle.survivors.specs.declared.tree.Cell.{Cell}
 use Rattle.survivors.proofs.Tallies.{tally-same, tally-change, tally-ge, tally-two, tally-some, tally-only}
-use Rattle.survivors.proofs.Pokes.{poke-here, poke-other, poke-refs, poke-heirs, poke-same, share-same, share-none, share-mine, share-not, owner-oldest, owner-parent, plus-here, plus-other, under-zero, owner-used}
+use Rattle.survivors.proofs.Shares.{poke-here, poke-other, poke-refs, poke-heirs, poke-same, share-same, share-none, share-mine, share-not, owner-oldest, owner-parent, plus-here, plus-other, under-zero, owner-used}
 
 -- the cell i joins the tree
 pub record Come (cs cs′ : List Cell) (i : ℕ) : Type 0 where

@@ -11,8 +11,8 @@ use Rattle.std.proofs.shelf.Tests.{cases-eq, lt-ltb}
 use Rattle.std.proofs.shelf.Lists.{length-set, getD-set-same, getD-set-other}
 use Rattle.survivors.specs.Cells.{void, at, owner, share, under, one, self, inUse, plus, poke, Shape, Stack, Links, Same}
 use Rattle.survivors.specs.declared.tree.Cell.{Cell}
-use Rattle.survivors.proofs.Pokes.{poke-here, poke-other, poke-refs, poke-heirs, poke-same, owner-oldest, owner-parent, plus-here, plus-other, under-zero}
-use Rattle.survivors.proofs.Comes.{Come, come-used, come-owner, come-other, stack-less, come-shape}
+use Rattle.survivors.proofs.Shares.{poke-here, poke-other, poke-refs, poke-heirs, poke-same, owner-oldest, owner-parent, plus-here, plus-other, under-zero}
+use Rattle.survivors.proofs.Arrivals.{Come, come-used, come-owner, come-other, stack-less, come-shape}
 
 -- a new cell at i
 abbrev pub put : List Cell → ℕ → ℕ → ℕ → ℕ → List Cell

@@ -13,7 +13,7 @@ use Rattle.survivors.specs.Sums.{tally}
 use Rattle.survivors.specs.Cells.{void, at, owner, share, under, one, self, inUse, plus, poke, Shape, Stack, Links, Same, Kept}
 use Rattle.survivors.specs.declared.tree.Cell.{Cell}
 use Rattle.survivors.proofs.Tallies.{tally-same, tally-change, tally-ge, tally-two, tally-some, tally-only}
-use Rattle.survivors.proofs.Pokes.{poke-here, poke-other, poke-refs, poke-heirs, poke-same, same-same, shape-kept, share-same, share-none, share-mine, share-not, owner-oldest, owner-parent, plus-here, plus-other}
+use Rattle.survivors.proofs.Shares.{poke-here, poke-other, poke-refs, poke-heirs, poke-same, same-same, shape-kept, share-same, share-none, share-mine, share-not, owner-oldest, owner-parent, plus-here, plus-other}
 use Rattle.survivors.proofs.Freed.{Gone, gone-kept, under-owner, under-other, use-less, stack-more}
 
 -- the cell c with one reference less

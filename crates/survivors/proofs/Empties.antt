@@ -10,20 +10,20 @@ use lib.Dec.{eqb, ltb}
 use Rattle.std.proofs.shelf.Tests.{cases-eq, cases-lt}
 use Rattle.std.proofs.shelf.Lists.{length-replicate, getD-replicate}
 use Rattle.survivors.specs.Cells.{void, at, owner, share, under, one, self, inUse, Shape, Stack, Links}
-use Rattle.survivors.specs.Trees.{tipOf, tipsOf, Real, Holds, held, Valid, Tips, Blank}
+use Rattle.survivors.specs.Trees.{tipOf, tipsOf, Real, Holds, held, Valid, Tips, Cleared}
 use Rattle.survivors.specs.declared.tree.Cell.{Cell}
 use Rattle.survivors.specs.declared.tree.Tree.{Tree}
 use Rattle.survivors.proofs.Tallies.{tally-none, tally-some}
-use Rattle.survivors.proofs.Pokes.{share-none, owner-oldest, owner-parent}
+use Rattle.survivors.proofs.Shares.{share-none, owner-oldest, owner-parent}
 use Rattle.survivors.proofs.Roots.{seen}
-use Rattle.survivors.proofs.Rests.{held-none, tips-wider}
+use Rattle.survivors.proofs.Decides.{held-none, tips-wider}
 
 pub idle : (cs : List Cell) → ((x : ℕ) → x < 1024 → at cs x .refs ≡ 0) → inUse cs ≡ 0
 idle cs z = tally-none (λ x. cond (ltb 0 (at cs x .refs)) 1 0) 1024 (λ x l. ap (λ (y : ℕ). cond (ltb 0 y) 1 0) (z x l))
 
 -- a tree in which no cell is in use
 pub empty : (s : Tree) → length (s .cells) ≡ 1024 → ((x : ℕ) → x < 1024 → at (s .cells) x .refs ≡ 0) → Stack (s .cells) (s .free) (s .room)
-    → Real (s .tips) → Tips (tipsOf s) 0 → s .modes ≤ 32 → s .base ≡ 0 → s .top ≡ 0 → s .width ≡ 0 → s .first ≡ 0 → Blank s
+    → Real (s .tips) → Tips (tipsOf s) 0 → s .modes ≤ 32 → s .base ≡ 0 → s .top ≡ 0 → s .width ≡ 0 → s .first ≡ 0 → Cleared s
 empty s n z st re t few b p w i =
     let out : (x : ℕ) → x < 1024 → 0 < at (s .cells) x .refs → ⊥ = λ x l u. omega (arith, z x l) in
     let nothing : (v : ℕ → ℕ) (o : ℕ) → under v (s .cells) (s .base) o ≡ 0 = λ v o. tally-none (share v (s .cells) (s .base) o) 1024 (λ x l. share-none v (s .cells) (s .base) o x (z x l)) in
@@ -58,7 +58,6 @@ empty s n z st re t few b p w i =
       };
       base = b;
       top = p;
-      room = omega (arith, st .live, idle (s .cells) z);
       tips = t;
     }
 

@@ -1,7 +1,7 @@
 -- One turn of `settle`.
 use mathlib.Core.Path.{_≡_, refl, sym, _∙_, ap, subst}
 use mathlib.Core.Logic.{_≢_, _⊎_, inl, inr, ⊎-elim}
-use mathlib.Core.List.{List, [], _∷_, _++_, append-assoc}
+use mathlib.Core.List.{List, [], _∷_, _++_, append-assoc, map}
 use mathlib.Core.Bool.{Bool, true, false, cond}
 use Prim.Native.Nat.{ℕ, zero, suc, _+_, _-_, _%_, _<_, _≤_}
 use native.Mathlib.Omega.{arith}
@@ -14,19 +14,15 @@ use Rattle.std.specs.declared.option.Option.{Option}
 use Rattle.std.specs.declared.option.Option.the-variants.{Some, None}
 use Rattle.survivors.specs.Sums.{tally}
 use Rattle.survivors.specs.Cells.{void, at, owner, share, under, one, self, plus, poke, path, Shape, Stack, Links, Same, Kept}
-use Rattle.survivors.specs.Trees.{tipOf, tipsOf, Real, Holds, Tips, Valid, Settling, held, pathTo, written}
+use Rattle.survivors.specs.Ring.{Written}
+use Rattle.survivors.proofs.Rings.{written-push}
+use Rattle.survivors.specs.Trees.{tipOf, tipsOf, Real, Holds, Valid, Settling, held, pathOf, Tips}
 use Rattle.survivors.specs.declared.tree.Cell.{Cell}
 use Rattle.survivors.specs.declared.tree.Tree.{Tree}
 use Rattle.survivors.proofs.Tallies.{tally-ge, tally-none}
 use Rattle.survivors.proofs.Roots.{Root, root, felled, fell-gone, fell-kept, decide, path-root}
-use Rattle.survivors.proofs.Pokes.{share-none, share-not, owner-oldest}
+use Rattle.survivors.proofs.Shares.{share-none, share-not, owner-oldest}
 use Rattle.survivors.proofs.Freed.{stack-more}
-
-pub written-push : (ring : List ℕ) (base : ℕ) (out : List ℕ) (m : ℕ) → written ring base (out ++ (m ∷ [])) ≡ set (written ring base out) ((base + length out) % 4096) m
-written-push ring base [] m = ap (λ (k : ℕ). set ring (k % 4096) m) (omega arith)
-written-push ring base (x ∷ out) m =
-    written-push (set ring (base % 4096) x) (base + 1) out m
-    ∙ ap (λ (k : ℕ). set (written (set ring (base % 4096) x) (base + 1) out) (k % 4096) m) (omega arith)
 
 -- no tip at all
 pub no-tips : (n : ℕ) → Real (replicate n None)
@@ -71,7 +67,7 @@ module _ (s : Tree) (r : Valid s) (single : s .width ≡ 1) where
   kept = fell-kept (s .cells) (s .free) (s .room) (s .base) (s .top) (s .width) (s .first) (held (tipsOf s)) t single
 
   -- a path, without its first mode
-  pub shorter : (u : ℕ) → u < 32 → getD (tipsOf s) u 0 < 1024 → pathTo s u ≡ at (s .cells) (s .first) .mode ∷ path cs′ (s .top - (s .base + 1)) (getD (tipsOf s) u 0)
+  pub shorter : (u : ℕ) → u < 32 → getD (tipsOf s) u 0 < 1024 → pathOf s u ≡ at (s .cells) (s .first) .mode ∷ path cs′ (s .top - (s .base + 1)) (getD (tipsOf s) u 0)
   shorter u l m =
       let n = s .top - (s .base + 1) in
       let e : s .top - s .base ≡ suc n = omega (arith, deep) in
@@ -147,13 +143,13 @@ module _ (s : Tree) (r : Valid s) (single : s .width ≡ 1) where
         }
 
 -- one more mode is decided
-module _ (o : Tree) (ring : List ℕ) (s : Tree) (ring′ : List ℕ) (g : Settling o ring s ring′) (single : s .width ≡ 1) where
+module _ (o : Tree) (ring : List ℕ) (s : Tree) (ring′ : List ℕ) (g : Settling o ring s ring′) (long : length ring ≡ 4096) (single : s .width ≡ 1) where
   abbrev m : ℕ
   m = at (s .cells) (s .first) .mode
 
-  paths-on : (u : ℕ) → u < 32 → getD (tipsOf o) u 0 < 1024 → pathTo o u ≡ (g .out ++ (m ∷ [])) ++ path (cs′ s (g .rest) single) (s .top - (s .base + 1)) (getD (tipsOf s) u 0)
+  paths-on : (u : ℕ) → u < 32 → getD (tipsOf o) u 0 < 1024 → pathOf o u ≡ (g .out ++ (m ∷ [])) ++ path (cs′ s (g .rest) single) (s .top - (s .base + 1)) (getD (tipsOf s) u 0)
   paths-on u l k =
-      let e : tipsOf s ≡ tipsOf o = g .tips (deep s (g .rest) single) in
+      let e : tipsOf s ≡ tipsOf o = ap (map tipOf) (g .tips (deep s (g .rest) single)) in
       let k′ : getD (tipsOf s) u 0 < 1024 = rw e k in
       let q = shorter s (g .rest) single u l k′ in
       g .paths u l k ∙ ap (λ (z : List ℕ). g .out ++ z) q ∙ sym (append-assoc (g .out) (m ∷ []) (path (cs′ s (g .rest) single) (s .top - (s .base + 1)) (getD (tipsOf s) u 0)))
@@ -161,11 +157,8 @@ module _ (o : Tree) (ring : List ℕ) (s : Tree) (ring′ : List ℕ) (g : Settl
   base-on : s .base + 1 ≡ o .base + length (g .out ++ (m ∷ []))
   base-on = omega (arith, g .base, length-push (g .out) m)
 
-  ring-on : set ring′ (s .base % 4096) m ≡ written ring (o .base) (g .out ++ (m ∷ []))
-  ring-on =
-      ap (λ (z : List ℕ). set z (s .base % 4096) m) (g .ring)
-      ∙ ap (λ (k : ℕ). set (written ring (o .base) (g .out)) (k % 4096) m) (g .base)
-      ∙ sym (written-push ring (o .base) (g .out) m)
+  ring-on : Written ring (o .base) (g .out ++ (m ∷ [])) (set ring′ (s .base % 4096) m)
+  ring-on = rw (g .base) (written-push ring (o .base) (g .out) ring′ m long (g .ring))
 
   pub settle-on : (more : s .base + 1 ≢ s .top) → Settling o ring (next s (g .rest) single more) (set ring′ (s .base % 4096) m)
   settle-on more = record {

@@ -12,20 +12,16 @@ use Rattle.std.specs.declared.option.Option.{Option}
 use Rattle.std.specs.declared.option.Option.the-variants.{Some, None}
 use Rattle.survivors.specs.Sums.{tally}
 use Rattle.survivors.specs.Cells.{at, path, plus, Links, Kept}
-use Rattle.survivors.specs.Trees.{tipOf, tipsOf, Holds, held, both, Valid, Tips, Shed, Settling, Apart, Finished, pathTo, written, liveCells, meets}
+use Rattle.survivors.specs.Ring.{Written}
+use Rattle.survivors.specs.Trees.{tipOf, tipsOf, Holds, held, both, Valid, Tips, Shed, Settling, Apart, Ended, pathOf}
 use Rattle.survivors.specs.declared.tree.Cell.{Cell}
 use Rattle.survivors.specs.declared.tree.Tree.{Tree}
 use Rattle.survivors.proofs.Tips.{tree-held, held-set, real-set, off, plus-nil, tips-set}
-use Rattle.survivors.proofs.Rests.{held-none}
+use Rattle.survivors.proofs.Decides.{held-none}
 use Rattle.survivors.proofs.Sprouts.{tip-used, path-frame}
-use Rattle.survivors.proofs.Lives.{room-is}
 
 abbrev nil : ℕ → ℕ
 nil x = 0
-
-dry : (w : Tree) → w .top - w .base ≡ 0 → liveCells w ≡ 0
-unfolding tally
-dry w e = rw e refl
 
 -- s with other tips
 abbrev pub tipped : Tree → List (Option ℕ) → Tree
@@ -107,7 +103,7 @@ module _ (s : Tree) (r : Valid s) (best : ℕ) (l : best < s .modes) (tipped′ 
             let e : getD (tipsOf t) best 0 ≡ 1024 = d .tips .beyond best bl (omega arith) in
             omega (arith, ap (λ (z : List ℕ). held z x) alone-is, held-set (tipsOf t) best (getD (tipsOf s) best 0) x (d .tips .many) bl, off (getD (tipsOf t) best 0) x (λ q. omega arith), held-none (tipsOf t) x (λ u ul q. omega (arith, d .tips .beyond u ul (omega arith))), plus-nil (getD (tipsOf s) best 0) x)
 
-    pub alone-path : pathTo (tipped t raw) best ≡ pathTo s best
+    pub alone-path : pathOf (tipped t raw) best ≡ pathOf s best
     alone-path =
         let n = s .top - (s .base + 1) in
         let e : t .top - t .base ≡ suc n = omega (arith, d .base, d .top, deep) in
@@ -117,21 +113,21 @@ module _ (s : Tree) (r : Valid s) (best : ℕ) (l : best < s .modes) (tipped′ 
         (λ y yl w. d .kept .same .mode y yl)
         n (getD (tipsOf s) best 0) tipped′ (tip-used s r best bl tipped′) (omega (arith, r .newest best bl tipped′, deep)))
 
-    out-is : (ring : List ℕ) (w : Tree) (ring′ : List ℕ) (g : Settling (tipped t raw) ring w ring′) → w .top - w .base ≡ 0 → g .out ≡ pathTo s best
+    out-is : (ring : List ℕ) (w : Tree) (ring′ : List ℕ) (g : Settling (tipped t raw) ring w ring′) → w .top - w .base ≡ 0 → g .out ≡ pathOf s best
     out-is ring w ring′ g flat =
-        let a : pathTo (tipped t raw) best ≡ g .out ++ pathTo w best = g .paths best bl (rw here tipped′) in
-        let b : pathTo w best ≡ [] = ap (λ (n : ℕ). path (w .cells) n (getD (tipsOf w) best 0)) flat in
+        let a : pathOf (tipped t raw) best ≡ g .out ++ pathOf w best = g .paths best bl (rw here tipped′) in
+        let b : pathOf w best ≡ [] = ap (λ (n : ℕ). path (w .cells) n (getD (tipsOf w) best 0)) flat in
         sym (append-nil (g .out)) ∙ sym (ap (λ (y : List ℕ). g .out ++ y) b) ∙ sym a ∙ alone-path
 
-    pub finished : (ring : List ℕ) (w : Tree) (ring′ : List ℕ) → Settling (tipped t raw) ring w ring′ → (w .base < w .top → Apart w) → Finished s best ring w ring′
+    pub finished : (ring : List ℕ) (w : Tree) (ring′ : List ℕ) → Settling (tipped t raw) ring w ring′ → (w .base < w .top → Apart w) → Ended s best ring w ring′
     finished ring w ring′ g most =
         let done : w .base ≡ w .top = ⊎-elim
         (λ (q : w .base < w .top).
         let p = most q in
-        let e : tipsOf w ≡ alone = g .tips q in
+        let e : tipsOf w ≡ alone = ap (map tipOf) (g .tips q) in
         let ub : p .u ≡ best = is-best (p .u) (p .ul) (rw e at (p .utip)) in
         let vb : p .v ≡ best = is-best (p .v) (p .vl) (rw e at (p .vtip)) in
-        absurd (p .differ (ap (λ (y : ℕ). getD (pathTo w y) 0 32) (ub ∙ sym vb))))
+        absurd (p .differ (ap (λ (y : ℕ). getD (pathOf w y) 0 0) (ub ∙ sym vb))))
         (λ (q : w .top ≤ w .base). omega (arith, g .rest .holds .shape .span))
         (cases-lt (w .base) (w .top)) in
         let flat : w .top - w .base ≡ 0 = omega arith in
@@ -139,6 +135,5 @@ module _ (s : Tree) (r : Valid s) (best : ℕ) (l : best < s .modes) (tipped′ 
           rest = g .rest;
           base = done ∙ g .top ∙ d .top;
           top = g .top ∙ d .top;
-          room = omega (arith, room-is w (g .rest), dry w flat);
-          ring = g .ring ∙ ap (λ (b : ℕ). written ring b (g .out)) (d .base) ∙ ap (λ (z : List ℕ). written ring (s .base) z) (out-is ring w ring′ g flat);
+          ring = subst (λ (b : ℕ). Written ring b (pathOf s best) ring′) (d .base) (subst (λ (z : List ℕ). Written ring (t .base) z ring′) (out-is ring w ring′ g flat) (g .ring));
         }
