@@ -18,20 +18,22 @@ abbrev pub spot : List Cell → ℕ → ℕ × ℕ
 spot cs x = (at cs x .layer, at cs x .mode)
 
 -- those of the cells in use below n
-abbrev pub spots : List Cell → ℕ → List (ℕ × ℕ)
+pub spots : List Cell → ℕ → List (ℕ × ℕ)
 spots cs zero = []
 spots cs (suc n) = cond (ltb 0 (at cs n .refs)) (spot cs n ∷ spots cs n) (spots cs n)
 
 module _ (cs : List Cell) where
   -- with the cell n in use, and without
   with-it : (n : ℕ) → 0 < at cs n .refs → spots cs (suc n) ≡ spot cs n ∷ spots cs n
+  unfolding spots
   with-it n u = rw (lt-ltb 0 (at cs n .refs) u) refl
 
   without : (n : ℕ) → at cs n .refs ≤ 0 → spots cs (suc n) ≡ spots cs n
+  unfolding spots
   without n z = rw (le-ltb 0 (at cs n .refs) z) refl
 
   pub spots-many : (n : ℕ) → length (spots cs n) ≡ tally (λ x. cond (ltb 0 (at cs x .refs)) 1 0) n
-  unfolding tally
+  unfolding tally spots
   spots-many zero = refl
   spots-many (suc n) = ⊎-elim
       (λ (u : 0 < at cs n .refs). rw (lt-ltb 0 (at cs n .refs) u) (omega (arith, spots-many n)))
@@ -39,6 +41,7 @@ module _ (cs : List Cell) where
       (cases-lt 0 (at cs n .refs))
 
   pub spots-only : (n : ℕ) (a : ℕ × ℕ) → In a (spots cs n) → (x : ℕ) × (x < n) × (0 < at cs x .refs) × (a ≡ spot cs x)
+  unfolding spots
   spots-only zero a h = absurd h
   spots-only (suc n) a h = ⊎-elim
       (λ (u : 0 < at cs n .refs). ⊎-elim
@@ -64,6 +67,7 @@ module _ (cs : List Cell) where
 
   -- no two cells in use are of the same layer and mode
   pub spots-once : (base top : ℕ) → Shape cs base top → (n : ℕ) → n ≤ 1024 → Distinct (spots cs n)
+  unfolding spots
   spots-once base top s zero l = tt
   spots-once base top s (suc n) l = ⊎-elim
       (λ (u : 0 < at cs n .refs). subst Distinct (sym (with-it n u)) (

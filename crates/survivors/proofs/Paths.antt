@@ -29,7 +29,7 @@ above-parent : (cs : List Cell) (k c : ℕ) → above cs k (at cs c .parent) ≡
 above-parent cs zero c = refl
 above-parent cs (suc k) c = ap (λ (y : ℕ). at cs y .parent) (above-parent cs k c)
 
-path-length : (cs : List Cell) (n c : ℕ) → length (path cs n c) ≡ n
+pub path-length : (cs : List Cell) (n c : ℕ) → length (path cs n c) ≡ n
 path-length cs zero c = refl
 path-length cs (suc n) c = omega (arith, length-push (path cs n (at cs c .parent)) (at cs c .mode), path-length cs n (at cs c .parent))
 
@@ -53,7 +53,7 @@ path-at cs (suc n) j c l =
     (cases-eq j (suc n))
 
 -- a tip, or none
-find : (tips : List ℕ) (n : ℕ) → ((u : ℕ) × (u < n) × (getD tips u 0 < 1024)) ⊎ ((u : ℕ) → u < n → 1024 ≤ getD tips u 0)
+pub find : (tips : List ℕ) (n : ℕ) → ((u : ℕ) × (u < n) × (getD tips u 0 < 1024)) ⊎ ((u : ℕ) → u < n → 1024 ≤ getD tips u 0)
 find tips zero = inr (λ u l. absurd (omega arith))
 find tips (suc n) = ⊎-elim
     (λ (k : getD tips n 0 < 1024). inl (n, omega arith, k))

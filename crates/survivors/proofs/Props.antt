@@ -52,8 +52,8 @@ tips-prop tips k a b =
     let p-beyond : IsProp ((u : ℕ) → u < 32 → k ≤ u → getD tips u 0 ≡ 1024) = search props depth 14 in
     λ i. record { many = p-many (a .many) (b .many) i; each = p-each (a .each) (b .each) i; beyond = p-beyond (a .beyond) (b .beyond) i }
 
-pub rest-prop : (s : Tree) → IsProp (Valid s)
-rest-prop s a b =
+pub valid-prop : (s : Tree) → IsProp (Valid s)
+valid-prop s a b =
     let p-holds : IsProp (Holds s (held (tipsOf s))) = tree-prop (s .cells) (s .free) (s .room) (s .base) (s .top) (s .width) (s .first) (held (tipsOf s)) in
     let p-tips : IsProp (Tips (tipsOf s) (s .modes)) = tips-prop (tipsOf s) (s .modes) in
     let p-few : IsProp (s .modes ≤ 32) = search props depth 14 in
@@ -66,6 +66,6 @@ rest-prop s a b =
     λ i. record { holds = p-holds (a .holds) (b .holds) i; tips = p-tips (a .tips) (b .tips) i; few = p-few (a .few) (b .few) i; real = p-real (a .real) (b .real) i; newest = p-newest (a .newest) (b .newest) i; ends = p-ends (a .ends) (b .ends) i; old = p-old (a .old) (b .old) i; none = p-none (a .none) (b .none) i; any = p-any (a .any) (b .any) i }
 
 -- what a ghost field ∥ Valid tree ∥₁ gives
-pub rest-of : (s : Tree) → ∥ Valid s ∥₁ → Valid s
-rest-of s t = ∥∥₁-elim t (rest-prop s) (λ r. r)
+pub valid-of : (s : Tree) → ∥ Valid s ∥₁ → Valid s
+valid-of s t = ∥∥₁-elim t (valid-prop s) (λ r. r)
 
