@@ -76,7 +76,7 @@ module _ (cs cs′ : List Cell) (i : ℕ) (g : Come cs cs′ i) where
         apart = λ j k l m. s .apart j k l (omega arith);
       }
 
-  module _ (free : List ℕ) (room base top width first : ℕ) (h : ℕ → ℕ) (t : Links cs free room base top width first h) where
+  module _ {free : List ℕ} {room base top width first : ℕ} {h : ℕ → ℕ} (t : Links cs free room base top width first h) where
     off : (p : ℕ) → 0 < at cs p .refs → p ≢ i
     off p u q = let z : at cs p .refs ≡ 0 = rw q (g .was) in omega arith
 

@@ -18,7 +18,7 @@ use Rattle.survivors.proofs.Arrivals.{Come, come-used, come-owner, come-other,
 abbrev pub put : List Cell → ℕ → ℕ → ℕ → ℕ → List Cell
 put cs i top p m = set cs i (record { layer = top; heirs = 0; parent = p; refs = 1; mode = m })
 
-module _ (cs : List Cell) (free : List ℕ) (room base top width first : ℕ) (h : ℕ → ℕ) (t : Links cs free room base top width first h) (some : 0 < room) (p m : ℕ) (tiny : m < 32)
+module _ {cs : List Cell} {free : List ℕ} {room base top width first : ℕ} {h : ℕ → ℕ} (t : Links cs free room base top width first h) (some : 0 < room) (p m : ℕ) (tiny : m < 32)
     (fresh : (x : ℕ) → x < 1024 → 0 < at cs x .refs → at cs x .layer ≡ top → at cs x .mode ≢ m) where
   abbrev i : ℕ
   i = getD free (room - 1) 0
@@ -75,7 +75,7 @@ module _ (cs : List Cell) (free : List ℕ) (room base top width first : ℕ) (h
         let none : base < top → ⊥ = λ q. omega arith in
         record {
           size = put-size;
-          shape = come-shape cs (put cs i top p m) i root-come free room base top width first h t
+          shape = come-shape cs (put cs i top p m) i root-come t
               (ap (λ (v : Cell). v .layer) put-here) (rw put-here tiny) (λ q. absurd (none q)) (λ q. absurd (none q)) (λ q. absurd (none q))
               (λ x l u e f. fresh x l u e (f ∙ ap (λ (v : Cell). v .mode) put-here));
           stack = stack-less cs (put cs i top p m) i root-come free room (t .stack) some refl;
@@ -156,7 +156,7 @@ module _ (cs : List Cell) (free : List ℕ) (room base top width first : ℕ) (h
     below =
         record {
           size = length-set (put cs i top p m) p _ ∙ put-size;
-          shape = come-shape cs hung i hung-come free room base top width first h t
+          shape = come-shape cs hung i hung-come t
               (ap (λ (v : Cell). v .layer) hung-here)
               (rw hung-here tiny)
               (λ q. rw hung-here pb)

@@ -48,8 +48,8 @@ module _ (s : Tree) (r : Valid s) (single : s .width ≡ 1) where
   abbrev t : Holds s (held (tipsOf s))
   t = r .holds
 
-  pub top-root : Root (s .cells) (s .free) (s .room) (s .base) (s .top) (s .width) (s .first) (held (tipsOf s)) t single (s .first)
-  top-root = root (s .cells) (s .free) (s .room) (s .base) (s .top) (s .width) (s .first) (held (tipsOf s)) t single
+  pub top-root : Root t single (s .first)
+  top-root = root t single
 
   pub first-below : s .first < 1024
   first-below = top-root .here
@@ -58,13 +58,13 @@ module _ (s : Tree) (r : Valid s) (single : s .width ≡ 1) where
   deep = omega (arith, r .old (s .first) (top-root .here) (top-root .used), top-root .layer)
 
   abbrev cs′ : List Cell
-  cs′ = felled (s .cells) (s .free) (s .room) (s .base) (s .top) (s .width) (s .first) (held (tipsOf s)) t single
+  cs′ = felled t single
 
   pub room-below : s .room < 1024
-  room-below = omega (arith, stack-more (s .cells) cs′ (s .first) (fell-gone (s .cells) (s .free) (s .room) (s .base) (s .top) (s .width) (s .first) (held (tipsOf s)) t single) (s .free) (s .room) (t .stack) .live)
+  room-below = omega (arith, stack-more (s .cells) cs′ (s .first) (fell-gone t single) (s .free) (s .room) (t .stack) .live)
 
   kept : Kept (s .cells) cs′
-  kept = fell-kept (s .cells) (s .free) (s .room) (s .base) (s .top) (s .width) (s .first) (held (tipsOf s)) t single
+  kept = fell-kept t single
 
   -- a path, without its first mode
   pub shorter : (u : ℕ) → u < 32 → getD (tipsOf s) u 0 < 1024 → pathOf s u ≡ at (s .cells) (s .first) .mode ∷ path cs′ (s .top - (s .base + 1)) (getD (tipsOf s) u 0)
@@ -76,7 +76,7 @@ module _ (s : Tree) (r : Valid s) (single : s .width ≡ 1) where
       let o : f u ≡ 1 = rw (eq-eqb (getD (tipsOf s) u 0) (getD (tipsOf s) u 0) refl) refl in
       omega (arith, tally-ge f u 32 l) in
       ap (λ (j : ℕ). path (s .cells) j (getD (tipsOf s) u 0)) e
-      ∙ path-root (s .cells) (s .free) (s .room) (s .base) (s .top) (s .width) (s .first) (held (tipsOf s)) t single n (getD (tipsOf s) u 0) m (omega (arith, t .count (getD (tipsOf s) u 0) m)) (omega (arith, r .newest u l m, deep))
+      ∙ path-root t single n (getD (tipsOf s) u 0) m (omega (arith, t .count (getD (tipsOf s) u 0) m)) (omega (arith, r .newest u l m, deep))
 
   -- there are younger layers
   module _ (more : s .base + 1 ≢ s .top) where
@@ -92,7 +92,7 @@ module _ (s : Tree) (r : Valid s) (single : s .width ≡ 1) where
 
     next-rest : Valid next
     next-rest =
-        let d = decide (s .cells) (s .free) (s .room) (s .base) (s .top) (s .width) (s .first) (held (tipsOf s)) t single (held (tipsOf s)) (λ x l ne. refl) unheld deep in
+        let d = decide t single (held (tipsOf s)) (λ x l ne. refl) unheld deep in
         let w : under one (s .cells) (s .base) (s .first) ≡ at (s .cells) (s .first) .refs = omega (arith, t .count (s .first) first-below, unheld) in
         let f : under self (s .cells) (s .base) (s .first) ≡ at (s .cells) (s .first) .heirs = sym (t .heir (s .first) first-below (top-root .used)) in
         record {
@@ -129,7 +129,7 @@ module _ (s : Tree) (r : Valid s) (single : s .width ≡ 1) where
 
     ended-rest : Valid ended
     ended-rest =
-        let d = decide (s .cells) (s .free) (s .room) (s .base) (s .top) (s .width) (s .first) (held (tipsOf s)) t single (held (replicate 32 1024)) (λ x l ne. free-tips x l ∙ sym (omega (arith, t .count x l, unused x l ne))) (free-tips (s .first) first-below) deep in
+        let d = decide t single (held (replicate 32 1024)) (λ x l ne. free-tips x l ∙ sym (omega (arith, t .count x l, unused x l ne))) (free-tips (s .first) first-below) deep in
         record {
           real = no-tips 32;
           holds = record { size = d .size; shape = d .shape; stack = d .stack; count = d .count; heir = d .heir; wide = sym (childless one) ∙ d .wide; oldest = sym (childless self) ∙ d .oldest };

@@ -75,11 +75,11 @@ pub idle-cells : (x : ℕ) → x < 1024 → at (replicate 1024 void) x .refs ≡
 idle-cells x l = ap (λ (v : Cell). v .refs) (getD-replicate 1024 x void void l)
 
 -- where nothing is held, no cell is in use
-module _ (cs : List Cell) (free : List ℕ) (room base top width first : ℕ) (t : Links cs free room base top width first (λ _. 0)) where
+module _ {cs : List Cell} {free : List ℕ} {room base top width first : ℕ} (t : Links cs free room base top width first (λ _. 0)) where
   kid : (x : ℕ) → x < 1024 → 0 < at cs x .refs → (y : ℕ) × (y < 1024) × (0 < at cs y .refs) × (at cs x .layer + 1 ≡ at cs y .layer)
   kid x l u =
       let f = tally-some (share one cs base x) 1024 (omega (arith, t .count x l)) in
-      let v = seen cs free room base top width first (λ _. 0) t x (f .0) (f .2) in
+      let v = seen t x (f .0) (f .2) in
       let young : at cs (f .0) .layer ≢ base = λ q. omega (arith, owner-oldest cs base (f .0) q, v .1) in
       let p : at cs (f .0) .parent ≡ x = sym (owner-parent cs base (f .0) young) ∙ v .1 in
       let st : at cs (at cs (f .0) .parent) .layer + 1 ≡ at cs (f .0) .layer = t .shape .step (f .0) (f .1) (v .0) (omega (arith, t .shape .low (f .0) (f .1) (v .0), young)) in

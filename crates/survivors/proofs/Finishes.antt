@@ -41,7 +41,7 @@ module _ (s : Tree) (r : Valid s) (best : ℕ) (l : best < s .modes) (tipped′ 
   cut = map-set tipOf (s .tips) best None
 
   pub shed-by : Holds s (both (map tipOf (set (s .tips) best None)) (plus nil (getD (tipsOf s) best 0)))
-  shed-by = tree-held (s .cells) (s .free) (s .room) (s .base) (s .top) (s .width) (s .first) _ _ eq (r .holds)
+  shed-by = tree-held eq (r .holds)
     where
       eq : (x : ℕ) → x < 1024 → held (tipsOf s) x ≡ both (map tipOf (set (s .tips) best None)) (plus nil (getD (tipsOf s) best 0)) x
       eq x xl = omega (arith, ap (λ (z : List ℕ). held z x) cut, held-set (tipsOf s) best 1024 x (r .tips .many) bl, off 1024 x (λ q. omega arith), plus-nil (getD (tipsOf s) best 0) x)
@@ -71,7 +71,7 @@ module _ (s : Tree) (r : Valid s) (best : ℕ) (l : best < s .modes) (tipped′ 
 
     pub alone-rest : Valid (tipped t raw)
     alone-rest = record {
-      holds = tree-held (t .cells) (t .free) (t .room) (t .base) (t .top) (t .width) (t .first) _ _ eq (d .holds (plus nil (getD (tipsOf s) best 0)) (shed-by));
+      holds = tree-held eq (d .holds (plus nil (getD (tipsOf s) best 0)) (shed-by));
       tips = record {
         many = ap length alone-is ∙ length-set (tipsOf t) best _ ∙ d .tips .many;
         each = λ u ul. ⊎-elim

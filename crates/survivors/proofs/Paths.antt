@@ -88,7 +88,7 @@ module _ (s : Tree) (r : Valid s) where
       let f = tally-some (share one cs (s .base) x) 1024 k in
       let y = f .0 in
       let t = r .holds in
-      let v = seen cs (s .free) (s .room) (s .base) (s .top) (s .width) (s .first) (held (tipsOf s)) t x y (f .2) in
+      let v = seen t x y (f .2) in
       let young : at cs y .layer ≢ s .base = λ q. omega (arith, owner-oldest cs (s .base) y q, v .1) in
       let p : at cs y .parent ≡ x = sym (owner-parent cs (s .base) y young) ∙ v .1 in
       let st : at cs (at cs y .parent) .layer + 1 ≡ at cs y .layer = t .shape .step y (f .1) (v .0) (omega (arith, t .shape .low y (f .1) (v .0), young)) in
@@ -164,10 +164,10 @@ module _ (s : Tree) (r : Valid s) where
       let wide : 1 < under one cs (s .base) 1024 = omega (arith, tally-ge (share one cs (s .base) 1024) (b .0) 1024 (b .1), t .wide, ne) in
       let p = tally-pair (share one cs (s .base) 1024) 1024 (λ x l. share-bound one cs (s .base) 1024 x) wide in
       let xl : p .0 < 1024 = omega (arith, p .2, p .3) in
-      let sx = seen cs (s .free) (s .room) (s .base) (s .top) (s .width) (s .first) (held (tipsOf s)) t 1024 (p .0) (p .4) in
-      let sy = seen cs (s .free) (s .room) (s .base) (s .top) (s .width) (s .first) (held (tipsOf s)) t 1024 (p .1) (p .5) in
-      let lx = oldest-by cs (s .free) (s .room) (s .base) (s .top) (s .width) (s .first) (held (tipsOf s)) t (p .0) xl (sx .0) (sx .1) in
-      let ly = oldest-by cs (s .free) (s .room) (s .base) (s .top) (s .width) (s .first) (held (tipsOf s)) t (p .1) (p .3) (sy .0) (sy .1) in
+      let sx = seen t 1024 (p .0) (p .4) in
+      let sy = seen t 1024 (p .1) (p .5) in
+      let lx = oldest-by t (p .0) xl (sx .0) (sx .1) in
+      let ly = oldest-by t (p .1) (p .3) (sy .0) (sy .1) in
       let ox = on-place 0 (p .0) xl (sx .0) (omega (arith, lx)) in
       let oy = on-place 0 (p .1) (p .3) (sy .0) (omega (arith, ly)) in
       record {

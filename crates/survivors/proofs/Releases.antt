@@ -20,7 +20,7 @@ use Rattle.survivors.proofs.Freed.{Gone, gone-kept, under-owner, under-other, 
 abbrev pub lowered : List Cell → ℕ → List Cell
 lowered cs c = poke cs c (at cs c .refs - 1) (at cs c .heirs)
 
-module _ (cs : List Cell) (free : List ℕ) (room base top width first : ℕ) (h : ℕ → ℕ) (c : ℕ) (l : c < 1024) (t : Links cs free room base top width first (plus h c)) where
+module _ {cs : List Cell} {free : List ℕ} {room base top width first : ℕ} (h : ℕ → ℕ) (c : ℕ) (l : c < 1024) (t : Links cs free room base top width first (plus h c)) where
   fits : c < length cs
   fits = omega (arith, t .size)
 

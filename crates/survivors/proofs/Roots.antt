@@ -16,7 +16,7 @@ use Rattle.survivors.proofs.Tallies.{tally-same, tally-ge, tally-two, tally-so
 use Rattle.survivors.proofs.Shares.{poke-here, poke-other, poke-refs, poke-heirs, poke-same, share-none, share-mine, share-not, share-zero, owner-oldest, owner-parent, owner-used}
 use Rattle.survivors.proofs.Freed.{Gone, gone-kept, stack-more}
 
-module _ (cs : List Cell) (free : List ℕ) (room base top width first : ℕ) (h : ℕ → ℕ) (t : Links cs free room base top width first h) where
+module _ {cs : List Cell} {free : List ℕ} {room base top width first : ℕ} {h : ℕ → ℕ} (t : Links cs free room base top width first h) where
   -- a cell in use whose owner is the root is in the oldest layer
   pub oldest-by : (x : ℕ) → x < 1024 → 0 < at cs x .refs → owner cs base x ≡ 1024 → at cs x .layer ≡ base
   oldest-by x l u e = ⊎-elim

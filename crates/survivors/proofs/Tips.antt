@@ -21,8 +21,8 @@ use Rattle.survivors.proofs.Shares.{plus-here, plus-other, same-same, kept-kep
 use Rattle.survivors.proofs.Decides.{held-none}
 
 -- only what is held of the cells matters
-pub tree-held : (cs : List Cell) (free : List ℕ) (room base top width first : ℕ) (h h′ : ℕ → ℕ) → ((x : ℕ) → x < 1024 → h x ≡ h′ x) → Links cs free room base top width first h → Links cs free room base top width first h′
-tree-held cs free room base top width first h h′ e t =
+pub tree-held : {cs : List Cell} {free : List ℕ} {room base top width first : ℕ} {h h′ : ℕ → ℕ} → ((x : ℕ) → x < 1024 → h x ≡ h′ x) → Links cs free room base top width first h → Links cs free room base top width first h′
+tree-held e t =
     record { size = t .size; shape = t .shape; stack = t .stack; count = λ x l. omega (arith, t .count x l, e x l); heir = t .heir; wide = t .wide; oldest = t .oldest }
 
 -- one tip changes
@@ -122,7 +122,7 @@ tips-set tips k i v t l m b =
 -- the state before the call of release
 pub shed-clear : (o s : Tree) (k i : ℕ) → Shedding o s k i → i < k → k ≤ 32 → (h : ℕ → ℕ) → Holds s (both (tipsOf s) h) → Holds s (plus (both (set (tipsOf s) i 1024) h) (getD (tipsOf s) i 0))
 shed-clear o s k i g l m h t =
-    tree-held (s .cells) (s .free) (s .room) (s .base) (s .top) (s .width) (s .first) _ _ (held-clear (tipsOf s) h i (g .tips .many) (omega arith)) t
+    tree-held (held-clear (tipsOf s) h i (g .tips .many) (omega arith)) t
 
 done-more : (o s : Tree) (k i : ℕ) → Shedding o s k i → i < k → k ≤ 32 → (u : ℕ) → u < 32 → u < i + 1 → getD (set (tipsOf s) i 1024) u 0 ≡ 1024
 done-more o s k i g l m u ul ui =
@@ -172,8 +172,7 @@ shed-skip o s k i g l m none = record {
 
 pub shed-all : (o s : Tree) (k : ℕ) → Shedding o s k k → k ≤ 32 → Shed o s
 shed-all o s k g m = record {
-  holds = λ h t. tree-held (s .cells) (s .free) (s .room) (s .base) (s .top) (s .width) (s .first) _ _
-      (λ x l. omega (arith, held-none (tipsOf s) x (λ u ul q. omega (arith, empty u ul)))) (g .all h t);
+  holds = λ h t. tree-held       (λ x l. omega (arith, held-none (tipsOf s) x (λ u ul q. omega (arith, empty u ul)))) (g .all h t);
   kept = g .kept;
   base = g .base;
   top = g .top;

@@ -33,7 +33,7 @@ add-self-else-self c =
     let s = c .args .self .now in
     let r = c .pre .1 in
     let o = older s (c .pre .0) (c .args .mode) (c .args .parent) r (c .if-self .left) in
-    let e = p-heirs (s .cells) (s .free) (s .room) (s .base) (s .top) (s .width) (s .first) (c .pre .0) (r .holds) (r .room) (c .args .parent) (c .args .mode) (r .small) (r .fresh) (c .if-self .left) (r .below o) (r .used o) (r .layer o) in
+    let e = p-heirs (r .holds) (r .room) (c .args .parent) (c .args .mode) (r .small) (r .fresh) (c .if-self .left) (r .below o) (r .used o) (r .layer o) in
     omega (arith, e, r .holds .heir (c .args .parent) (r .below o) (r .used o), under-self-bound (s .cells) (s .base) (c .args .parent), r .holds .stack .below (s .room - 1) (omega (arith, r .room)))
 
 pub add-self-else-self-2 : need.add-self-else-self-2
@@ -41,17 +41,17 @@ add-self-else-self-2 c =
     let s = c .args .self .now in
     let r = c .pre .1 in
     let o = older s (c .pre .0) (c .args .mode) (c .args .parent) r (c .if-self .left) in
-    let e = p-refs (s .cells) (s .free) (s .room) (s .base) (s .top) (s .width) (s .first) (c .pre .0) (r .holds) (r .room) (c .args .parent) (c .args .mode) (r .small) (r .fresh) (c .if-self .left) (r .below o) (r .used o) (r .layer o) in
+    let e = p-refs (r .holds) (r .room) (c .args .parent) (c .args .mode) (r .small) (r .fresh) (c .if-self .left) (r .below o) (r .used o) (r .layer o) in
     omega (arith, e, r .holds .count (c .args .parent) (r .below o), under-one-bound (s .cells) (s .base) (c .args .parent), r .few (c .args .parent))
 
 pub returns-then-self : need.returns-then-self
 returns-then-self c =
     let s = c .args .self .now in
     let r = c .pre .1 in
-    let g = root-come (s .cells) (s .free) (s .room) (s .base) (s .top) (s .width) (s .first) (c .pre .0) (r .holds) (r .room) (c .args .parent) (c .args .mode) (r .small) (r .fresh) (c .if-self .taken) in
-    let e = put-here (s .cells) (s .free) (s .room) (s .base) (s .top) (s .width) (s .first) (c .pre .0) (r .holds) (r .room) (c .args .parent) (c .args .mode) (r .small) (r .fresh) in
+    let g = root-come (r .holds) (r .room) (c .args .parent) (c .args .mode) (r .small) (r .fresh) (c .if-self .taken) in
+    let e = put-here (r .holds) (r .room) (c .args .parent) (c .args .mode) (r .small) (r .fresh) in
     record {
-      holds = λ h t. root (s .cells) (s .free) (s .room) (s .base) (s .top) (s .width) (s .first) h t (r .room) (c .args .parent) (c .args .mode) (r .small) (r .fresh) (c .if-self .taken);
+      holds = λ h t. root t (r .room) (c .args .parent) (c .args .mode) (r .small) (r .fresh) (c .if-self .taken);
       below = g .here;
       was = g .was;
       used = come-used _ _ _ g;
@@ -74,10 +74,10 @@ returns-else-self c =
     let s = c .args .self .now in
     let r = c .pre .1 in
     let o = older s (c .pre .0) (c .args .mode) (c .args .parent) r (c .if-self .left) in
-    let g = hung-come (s .cells) (s .free) (s .room) (s .base) (s .top) (s .width) (s .first) (c .pre .0) (r .holds) (r .room) (c .args .parent) (c .args .mode) (r .small) (r .fresh) (c .if-self .left) (r .below o) (r .used o) (r .layer o) in
-    let e = hung-here (s .cells) (s .free) (s .room) (s .base) (s .top) (s .width) (s .first) (c .pre .0) (r .holds) (r .room) (c .args .parent) (c .args .mode) (r .small) (r .fresh) (c .if-self .left) (r .below o) (r .used o) (r .layer o) in
+    let g = hung-come (r .holds) (r .room) (c .args .parent) (c .args .mode) (r .small) (r .fresh) (c .if-self .left) (r .below o) (r .used o) (r .layer o) in
+    let e = hung-here (r .holds) (r .room) (c .args .parent) (c .args .mode) (r .small) (r .fresh) (c .if-self .left) (r .below o) (r .used o) (r .layer o) in
     record {
-      holds = λ h t. below (s .cells) (s .free) (s .room) (s .base) (s .top) (s .width) (s .first) h t (r .room) (c .args .parent) (c .args .mode) (r .small) (r .fresh) (c .if-self .left) (r .below o) (r .used o) (r .layer o);
+      holds = λ h t. below t (r .room) (c .args .parent) (c .args .mode) (r .small) (r .fresh) (c .if-self .left) (r .below o) (r .used o) (r .layer o);
       below = g .here;
       was = g .was;
       used = come-used _ _ _ g;
