@@ -1,16 +1,16 @@
 -- The cells in use, as pairs of a reading and a mode.
-use mathlib.Core.Path.{_≡_, refl, sym, _∙_, ap, subst}
-use mathlib.Core.Logic.{_≢_, _⊎_, inl, inr, ⊎-elim}
+use mathlib.Core.Path.{_≡_, refl, sym, ap, subst}
+use mathlib.Core.Logic.{_⊎_, inl, inr, ⊎-elim}
 use mathlib.Core.List.{List, [], _∷_}
-use mathlib.Core.Bool.{Bool, true, false, cond}
-use Prim.Native.Nat.{ℕ, zero, suc, _+_, _-_, _<_, _≤_}
+use mathlib.Core.Bool.{cond}
+use Prim.Native.Nat.{ℕ, zero, suc, _<_, _≤_}
 use native.Mathlib.Omega.{arith}
 use lib.ListN.{length}
 use lib.Dec.{ltb}
 use Rattle.std.proofs.shelf.Tests.{cases-eq, cases-lt, lt-ltb, le-ltb}
-use Rattle.viterbi.specs.Lists.{In, Distinct, Counted}
+use Rattle.viterbi.specs.Lists.{In, Distinct}
 use Rattle.survivors.specs.Sums.{tally}
-use Rattle.survivors.specs.Cells.{at, inUse, Shape}
+use Rattle.survivors.specs.Cells.{at, Shape}
 use Rattle.survivors.specs.declared.tree.Cell.{Cell}
 
 -- the layer and the mode of a cell

@@ -1,26 +1,23 @@
 -- One turn of `settle`.
-use mathlib.Core.Path.{_≡_, refl, sym, _∙_, ap, subst}
-use mathlib.Core.Logic.{_≢_, _⊎_, inl, inr, ⊎-elim}
+use mathlib.Core.Path.{_≡_, refl, sym, _∙_, ap}
+use mathlib.Core.Logic.{_≢_, _⊎_, ⊎-elim}
 use mathlib.Core.List.{List, [], _∷_, _++_, append-assoc, map}
-use mathlib.Core.Bool.{Bool, true, false, cond}
+use mathlib.Core.Bool.{cond}
 use Prim.Native.Nat.{ℕ, zero, suc, _+_, _-_, _%_, _<_, _≤_}
 use native.Mathlib.Omega.{arith}
-use native.Mathlib.Nat.{add-assoc}
 use lib.ListN.{length, getD, set, replicate}
-use lib.Dec.{eqb, ltb}
+use lib.Dec.{eqb}
 use Rattle.std.proofs.shelf.Tests.{cases-eq, cases-lt, eq-eqb, ne-eqb}
-use Rattle.std.proofs.shelf.Lists.{length-set, length-push, getD-replicate, length-replicate}
-use Rattle.std.specs.declared.option.Option.{Option}
-use Rattle.std.specs.declared.option.Option.the-variants.{Some, None}
-use Rattle.survivors.specs.Sums.{tally}
-use Rattle.survivors.specs.Cells.{void, at, owner, share, under, one, self, plus, poke, path, Shape, Stack, Links, Same, Kept}
+use Rattle.std.proofs.shelf.Lists.{length-push, getD-replicate, length-replicate}
+use Rattle.std.specs.declared.option.Option.the-variants.{None}
+use Rattle.survivors.specs.Cells.{at, share, under, one, place, path, Kept}
 use Rattle.survivors.specs.Ring.{Written}
 use Rattle.survivors.proofs.Rings.{written-push}
 use Rattle.survivors.specs.Trees.{tipOf, tipsOf, Real, Holds, Valid, Settling, held, pathOf, Tips}
 use Rattle.survivors.specs.declared.tree.Cell.{Cell}
 use Rattle.survivors.specs.declared.tree.Tree.{Tree}
 use Rattle.survivors.proofs.Tallies.{tally-ge, tally-none}
-use Rattle.survivors.proofs.Roots.{Root, root, felled, fell-gone, fell-kept, decide, path-root}
+use Rattle.survivors.proofs.Roots.{Root, root, rootless, root-gone, root-kept, decide, path-root}
 use Rattle.survivors.proofs.Shares.{share-none, share-not, owner-oldest}
 use Rattle.survivors.proofs.Freed.{stack-more}
 
@@ -58,16 +55,16 @@ module _ (s : Tree) (r : Valid s) (single : s .width ≡ 1) where
   deep = omega (arith, r .old (s .first) (top-root .here) (top-root .used), top-root .layer)
 
   abbrev cs′ : List Cell
-  cs′ = felled t single
+  cs′ = rootless t single
 
   pub room-below : s .room < 1024
-  room-below = omega (arith, stack-more (s .cells) cs′ (s .first) (fell-gone t single) (s .free) (s .room) (t .stack) .live)
+  room-below = omega (arith, stack-more (s .cells) cs′ (s .first) (root-gone t single) (s .free) (s .room) (t .stack) .live)
 
   kept : Kept (s .cells) cs′
-  kept = fell-kept t single
+  kept = root-kept t single
 
   -- a path, without its first mode
-  pub shorter : (u : ℕ) → u < 32 → getD (tipsOf s) u 0 < 1024 → pathOf s u ≡ at (s .cells) (s .first) .mode ∷ path cs′ (s .top - (s .base + 1)) (getD (tipsOf s) u 0)
+  shorter : (u : ℕ) → u < 32 → getD (tipsOf s) u 0 < 1024 → pathOf s u ≡ at (s .cells) (s .first) .mode ∷ path cs′ (s .top - (s .base + 1)) (getD (tipsOf s) u 0)
   shorter u l m =
       let n = s .top - (s .base + 1) in
       let e : s .top - s .base ≡ suc n = omega (arith, deep) in
@@ -90,11 +87,11 @@ module _ (s : Tree) (r : Valid s) (single : s .width ≡ 1) where
         let c : at (s .cells) (s .first) .layer + 1 ≡ s .top = rw q at b in
         more (omega (arith, c, top-root .layer)))
 
-    next-rest : Valid next
-    next-rest =
+    next-valid : Valid next
+    next-valid =
         let d = decide t single (held (tipsOf s)) (λ x l ne. refl) unheld deep in
         let w : under one (s .cells) (s .base) (s .first) ≡ at (s .cells) (s .first) .refs = omega (arith, t .count (s .first) first-below, unheld) in
-        let f : under self (s .cells) (s .base) (s .first) ≡ at (s .cells) (s .first) .heirs = sym (t .heir (s .first) first-below (top-root .used)) in
+        let f : under place (s .cells) (s .base) (s .first) ≡ at (s .cells) (s .first) .heirs = sym (t .heir (s .first) first-below (top-root .used)) in
         record {
           real = r .real;
           holds = record { size = d .size; shape = d .shape; stack = d .stack; count = d .count; heir = d .heir; wide = sym w ∙ d .wide; oldest = sym f ∙ d .oldest };
@@ -127,12 +124,12 @@ module _ (s : Tree) (r : Valid s) (single : s .width ≡ 1) where
         (λ ne. share-none w (s .cells) (s .base) (s .first) x (unused x l ne))
         (cases-eq x (s .first)))
 
-    ended-rest : Valid ended
-    ended-rest =
+    ended-valid : Valid ended
+    ended-valid =
         let d = decide t single (held (replicate 32 1024)) (λ x l ne. free-tips x l ∙ sym (omega (arith, t .count x l, unused x l ne))) (free-tips (s .first) first-below) deep in
         record {
           real = no-tips 32;
-          holds = record { size = d .size; shape = d .shape; stack = d .stack; count = d .count; heir = d .heir; wide = sym (childless one) ∙ d .wide; oldest = sym (childless self) ∙ d .oldest };
+          holds = record { size = d .size; shape = d .shape; stack = d .stack; count = d .count; heir = d .heir; wide = sym (childless one) ∙ d .wide; oldest = sym (childless place) ∙ d .oldest };
           tips = tips-wider (s .modes) blank-tips;
           few = r .few;
           newest = λ u l m. absurd (omega (arith, getD-replicate {A = ℕ} 32 u 1024 0 l));
@@ -147,12 +144,12 @@ module _ (o : Tree) (ring : List ℕ) (s : Tree) (ring′ : List ℕ) (g : Settl
   abbrev m : ℕ
   m = at (s .cells) (s .first) .mode
 
-  paths-on : (u : ℕ) → u < 32 → getD (tipsOf o) u 0 < 1024 → pathOf o u ≡ (g .out ++ (m ∷ [])) ++ path (cs′ s (g .rest) single) (s .top - (s .base + 1)) (getD (tipsOf s) u 0)
+  paths-on : (u : ℕ) → u < 32 → getD (tipsOf o) u 0 < 1024 → pathOf o u ≡ (g .out ++ (m ∷ [])) ++ path (cs′ s (g .valid) single) (s .top - (s .base + 1)) (getD (tipsOf s) u 0)
   paths-on u l k =
-      let e : tipsOf s ≡ tipsOf o = ap (map tipOf) (g .tips (deep s (g .rest) single)) in
+      let e : tipsOf s ≡ tipsOf o = ap (map tipOf) (g .tips (deep s (g .valid) single)) in
       let k′ : getD (tipsOf s) u 0 < 1024 = rw e k in
-      let q = shorter s (g .rest) single u l k′ in
-      g .paths u l k ∙ ap (λ (z : List ℕ). g .out ++ z) q ∙ sym (append-assoc (g .out) (m ∷ []) (path (cs′ s (g .rest) single) (s .top - (s .base + 1)) (getD (tipsOf s) u 0)))
+      let q = shorter s (g .valid) single u l k′ in
+      g .paths u l k ∙ ap (λ (z : List ℕ). g .out ++ z) q ∙ sym (append-assoc (g .out) (m ∷ []) (path (cs′ s (g .valid) single) (s .top - (s .base + 1)) (getD (tipsOf s) u 0)))
 
   base-on : s .base + 1 ≡ o .base + length (g .out ++ (m ∷ []))
   base-on = omega (arith, g .base, length-push (g .out) m)
@@ -160,27 +157,27 @@ module _ (o : Tree) (ring : List ℕ) (s : Tree) (ring′ : List ℕ) (g : Settl
   ring-on : Written ring (o .base) (g .out ++ (m ∷ [])) (set ring′ (s .base % 4096) m)
   ring-on = rw (g .base) (written-push ring (o .base) (g .out) ring′ m long (g .ring))
 
-  pub settle-on : (more : s .base + 1 ≢ s .top) → Settling o ring (next s (g .rest) single more) (set ring′ (s .base % 4096) m)
+  pub settle-on : (more : s .base + 1 ≢ s .top) → Settling o ring (next s (g .valid) single more) (set ring′ (s .base % 4096) m)
   settle-on more = record {
-    rest = next-rest s (g .rest) single more;
+    valid = next-valid s (g .valid) single more;
     out = g .out ++ (m ∷ []);
     base = base-on;
     top = g .top;
     ring = ring-on;
     paths = paths-on;
-    tips = λ _. g .tips (deep s (g .rest) single);
+    tips = λ _. g .tips (deep s (g .valid) single);
   }
 
-  pub settle-end : (last : s .base + 1 ≡ s .top) → Settling o ring (ended s (g .rest) single last) (set ring′ (s .base % 4096) m)
+  pub settle-end : (last : s .base + 1 ≡ s .top) → Settling o ring (ended s (g .valid) single last) (set ring′ (s .base % 4096) m)
   settle-end last =
       let z : s .top - (s .base + 1) ≡ 0 = omega arith in
       record {
-        rest = ended-rest s (g .rest) single last;
+        valid = ended-valid s (g .valid) single last;
         out = g .out ++ (m ∷ []);
         base = base-on;
         top = g .top;
         ring = ring-on;
-        paths = λ u l k. paths-on u l k ∙ ap (λ (n : ℕ). (g .out ++ (m ∷ [])) ++ path (cs′ s (g .rest) single) n (getD (tipsOf s) u 0)) z
-            ∙ sym (ap (λ (n : ℕ). (g .out ++ (m ∷ [])) ++ path (cs′ s (g .rest) single) n (getD (replicate 32 1024) u 0)) z);
+        paths = λ u l k. paths-on u l k ∙ ap (λ (n : ℕ). (g .out ++ (m ∷ [])) ++ path (cs′ s (g .valid) single) n (getD (tipsOf s) u 0)) z
+            ∙ sym (ap (λ (n : ℕ). (g .out ++ (m ∷ [])) ++ path (cs′ s (g .valid) single) n (getD (replicate 32 1024) u 0)) z);
         tips = λ q. absurd (omega arith);
       }

@@ -1,16 +1,16 @@
 -- The empty tree.
-use mathlib.Core.Path.{_≡_, refl, sym, _∙_, ap, subst}
-use mathlib.Core.Logic.{_≢_, _⊎_, inl, inr, ⊎-elim}
-use mathlib.Core.List.{List, [], _∷_, _++_}
-use mathlib.Core.Bool.{Bool, true, false, cond}
+use mathlib.Core.Path.{_≡_, sym, _∙_, ap}
+use mathlib.Core.Logic.{_≢_, _⊎_, ⊎-elim}
+use mathlib.Core.List.{List}
+use mathlib.Core.Bool.{cond}
 use Prim.Native.Nat.{ℕ, zero, suc, _+_, _-_, _<_, _≤_}
 use native.Mathlib.Omega.{arith}
-use lib.ListN.{length, getD, set, replicate}
-use lib.Dec.{eqb, ltb}
-use Rattle.std.proofs.shelf.Tests.{cases-eq, cases-lt}
-use Rattle.std.proofs.shelf.Lists.{length-replicate, getD-replicate}
-use Rattle.survivors.specs.Cells.{void, at, owner, share, under, one, self, inUse, Shape, Stack, Links}
-use Rattle.survivors.specs.Trees.{tipOf, tipsOf, Real, Holds, held, Valid, Tips, Cleared}
+use lib.ListN.{length, getD, replicate}
+use lib.Dec.{ltb}
+use Rattle.std.proofs.shelf.Tests.{cases-lt}
+use Rattle.std.proofs.shelf.Lists.{getD-replicate}
+use Rattle.survivors.specs.Cells.{void, at, share, under, one, place, inUse, Stack, Links}
+use Rattle.survivors.specs.Trees.{tipsOf, Real, held, Tips, Cleared}
 use Rattle.survivors.specs.declared.tree.Cell.{Cell}
 use Rattle.survivors.specs.declared.tree.Tree.{Tree}
 use Rattle.survivors.proofs.Tallies.{tally-none, tally-some}
@@ -18,7 +18,7 @@ use Rattle.survivors.proofs.Shares.{share-none, owner-oldest, owner-parent}
 use Rattle.survivors.proofs.Roots.{seen}
 use Rattle.survivors.proofs.Decides.{held-none, tips-wider}
 
-pub idle : (cs : List Cell) → ((x : ℕ) → x < 1024 → at cs x .refs ≡ 0) → inUse cs ≡ 0
+idle : (cs : List Cell) → ((x : ℕ) → x < 1024 → at cs x .refs ≡ 0) → inUse cs ≡ 0
 idle cs z = tally-none (λ x. cond (ltb 0 (at cs x .refs)) 1 0) 1024 (λ x l. ap (λ (y : ℕ). cond (ltb 0 y) 1 0) (z x l))
 
 -- a tree in which no cell is in use
@@ -29,7 +29,7 @@ empty s n z st re t few b p w i =
     let nothing : (v : ℕ → ℕ) (o : ℕ) → under v (s .cells) (s .base) o ≡ 0 = λ v o. tally-none (share v (s .cells) (s .base) o) 1024 (λ x l. share-none v (s .cells) (s .base) o x (z x l)) in
     let loose : (x : ℕ) → x < 1024 → held (tipsOf s) x ≡ 0 = λ x l. held-none (tipsOf s) x (λ u ul q. omega (arith, t .beyond u ul (omega arith))) in
     record {
-      rest = record {
+      valid = record {
         holds = record {
           size = n;
           shape = record {
@@ -45,7 +45,7 @@ empty s n z st re t few b p w i =
           count = λ x l. omega (arith, z x l, nothing one x, loose x l);
           heir = λ x l u. absurd (out x l u);
           wide = omega (arith, nothing one 1024);
-          oldest = omega (arith, nothing self 1024);
+          oldest = omega (arith, nothing place 1024);
         };
         tips = tips-wider (s .modes) t;
         few = few;

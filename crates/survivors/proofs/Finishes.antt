@@ -1,20 +1,17 @@
 -- The tree with one tip alone, and what `finish` leaves.
-use mathlib.Core.Path.{_≡_, refl, sym, _∙_, ap, subst}
-use mathlib.Core.Logic.{_≢_, _⊎_, inl, inr, ⊎-elim}
-use mathlib.Core.List.{List, [], _∷_, _++_, append-nil, map}
-use mathlib.Core.Bool.{Bool, true, false, cond}
-use Prim.Native.Nat.{ℕ, zero, suc, _+_, _-_, _<_, _≤_}
+use mathlib.Core.Path.{_≡_, sym, _∙_, ap, subst}
+use mathlib.Core.Logic.{_≢_, _⊎_, ⊎-elim}
+use mathlib.Core.List.{List, [], _++_, append-nil, map}
+use Prim.Native.Nat.{ℕ, suc, _+_, _-_, _<_, _≤_}
 use native.Mathlib.Omega.{arith}
 use lib.ListN.{length, getD, set}
 use Rattle.std.proofs.shelf.Tests.{cases-eq, cases-lt}
-use Rattle.std.proofs.shelf.Lists.{length-set, getD-set-same, getD-set-other, nil-from-length, map-set}
+use Rattle.std.proofs.shelf.Lists.{length-set, getD-set-same, getD-set-other, map-set}
 use Rattle.std.specs.declared.option.Option.{Option}
 use Rattle.std.specs.declared.option.Option.the-variants.{Some, None}
-use Rattle.survivors.specs.Sums.{tally}
-use Rattle.survivors.specs.Cells.{at, path, plus, Links, Kept}
+use Rattle.survivors.specs.Cells.{at, path, plus}
 use Rattle.survivors.specs.Ring.{Written}
 use Rattle.survivors.specs.Trees.{tipOf, tipsOf, Holds, held, both, Valid, Tips, Shed, Settling, Apart, Ended, pathOf}
-use Rattle.survivors.specs.declared.tree.Cell.{Cell}
 use Rattle.survivors.specs.declared.tree.Tree.{Tree}
 use Rattle.survivors.proofs.Tips.{tree-held, held-set, real-set, off, plus-nil, tips-set}
 use Rattle.survivors.proofs.Decides.{held-none}
@@ -69,8 +66,8 @@ module _ (s : Tree) (r : Valid s) (best : ℕ) (l : best < s .modes) (tipped′ 
     is-best : (u : ℕ) → u < 32 → getD alone u 0 < 1024 → u ≡ best
     is-best u ul m = ⊎-elim (λ (e : u ≡ best). e) (λ (ne : u ≡ best → ⊥). absurd (omega (arith, others u ul ne))) (cases-eq u best)
 
-    pub alone-rest : Valid (tipped t raw)
-    alone-rest = record {
+    pub alone-valid : Valid (tipped t raw)
+    alone-valid = record {
       holds = tree-held eq (d .holds (plus nil (getD (tipsOf s) best 0)) (shed-by));
       tips = record {
         many = ap length alone-is ∙ length-set (tipsOf t) best _ ∙ d .tips .many;
@@ -128,11 +125,11 @@ module _ (s : Tree) (r : Valid s) (best : ℕ) (l : best < s .modes) (tipped′ 
         let ub : p .u ≡ best = is-best (p .u) (p .ul) (rw e at (p .utip)) in
         let vb : p .v ≡ best = is-best (p .v) (p .vl) (rw e at (p .vtip)) in
         absurd (p .differ (ap (λ (y : ℕ). getD (pathOf w y) 0 0) (ub ∙ sym vb))))
-        (λ (q : w .top ≤ w .base). omega (arith, g .rest .holds .shape .span))
+        (λ (q : w .top ≤ w .base). omega (arith, g .valid .holds .shape .span))
         (cases-lt (w .base) (w .top)) in
         let flat : w .top - w .base ≡ 0 = omega arith in
         record {
-          rest = g .rest;
+          valid = g .valid;
           base = done ∙ g .top ∙ d .top;
           top = g .top ∙ d .top;
           ring = subst (λ (b : ℕ). Written ring b (pathOf s best) ring′) (d .base) (subst (λ (z : List ℕ). Written ring (t .base) z ring′) (out-is ring w ring′ g flat) (g .ring));

@@ -1,19 +1,19 @@
 -- A reference to a cell is given back: the cell stays in use, or is free.
 use mathlib.Core.Path.{_≡_, refl, sym, _∙_, ap, subst}
-use mathlib.Core.Logic.{_≢_, _⊎_, inl, inr, ⊎-elim}
+use mathlib.Core.Logic.{_≢_, _⊎_, ⊎-elim}
 use mathlib.Core.List.{List}
-use mathlib.Core.Bool.{Bool, true, false, cond}
-use Prim.Native.Nat.{ℕ, zero, suc, _+_, _-_, _<_, _≤_}
+use mathlib.Core.Bool.{cond}
+use Prim.Native.Nat.{ℕ, _+_, _<_}
 use native.Mathlib.Omega.{arith}
 use lib.ListN.{length, getD, set}
-use lib.Dec.{eqb, ltb}
-use Rattle.std.proofs.shelf.Tests.{cases-eq, cases-lt, lt-ltb, le-ltb, eq-eqb, ne-eqb}
+use lib.Dec.{ltb}
+use Rattle.std.proofs.shelf.Tests.{cases-eq, lt-ltb}
 use Rattle.std.proofs.shelf.Lists.{length-set, getD-set-same, getD-set-other}
 use Rattle.survivors.specs.Sums.{tally}
-use Rattle.survivors.specs.Cells.{void, at, owner, share, under, one, self, inUse, plus, poke, Shape, Stack, Links, Same, Kept}
+use Rattle.survivors.specs.Cells.{at, owner, share, under, inUse, Stack, Same, Kept}
 use Rattle.survivors.specs.declared.tree.Cell.{Cell}
-use Rattle.survivors.proofs.Tallies.{tally-same, tally-change, tally-ge, tally-two, tally-some, tally-only}
-use Rattle.survivors.proofs.Shares.{poke-here, poke-other, poke-refs, poke-heirs, poke-same, same-same, shape-kept, share-same, share-none, share-mine, share-not, owner-oldest, owner-parent, plus-here, plus-other}
+use Rattle.survivors.proofs.Tallies.{tally-change}
+use Rattle.survivors.proofs.Shares.{share-same, share-none, share-mine, share-not}
 
 -- the cell c has left the tree: it alone is no more in use
 pub record Gone (cs cs′ : List Cell) (c : ℕ) : Type 0 where
@@ -49,7 +49,7 @@ module _ (cs cs′ : List Cell) (c : ℕ) (g : Gone cs cs′ c) where
       let b = share-none w cs′ base o c (g .none) in
       omega arith
 
-  pub use-less : inUse cs′ + 1 ≡ inUse cs
+  use-less : inUse cs′ + 1 ≡ inUse cs
   use-less =
       let f : ℕ → ℕ = λ x. cond (ltb 0 (at cs x .refs)) 1 0 in
       let f′ : ℕ → ℕ = λ x. cond (ltb 0 (at cs′ x .refs)) 1 0 in

@@ -2,7 +2,7 @@
 use mathlib.Core.Path.{_≡_, refl, sym, _∙_, ap, subst}
 use mathlib.Core.Bool.{true}
 use mathlib.Core.Logic.{⊎-elim}
-use mathlib.Core.List.{List, [], _∷_, _++_}
+use mathlib.Core.List.{[], _∷_, _++_}
 use Prim.Native.Nat.{ℕ, suc, _+_, _-_, _<_, _≤_}
 use native.Mathlib.Omega.{arith}
 use lib.ListN.{length, getD}
@@ -13,7 +13,7 @@ use Rattle.std.proofs.shelf.Tests.{cases-lt}
 use Rattle.std.proofs.shelf.Lists.{length-map, getD-map, getD-past}
 use Rattle.viterbi.specs.Lists.{In, Counted, EndsIn}
 use Rattle.survivors.specs.Cells.{at, path}
-use Rattle.survivors.specs.Trees.{Valid, tipOf, tipsOf, pathOf}
+use Rattle.survivors.specs.Trees.{Valid, tipOf, tipsOf}
 use Rattle.survivors.specs.Survivors.{taken, decided, HasTip, pathTo, OnPath}
 use Rattle.survivors.specs.declared.tree.Tree.{Tree}
 use Rattle.survivors.specs.declared.Survivors.{Survivors}

@@ -1,19 +1,16 @@
 -- What the calls of the inner tree come to, as a caller sees it.
 use mathlib.Core.Path.{_≡_, refl, sym, _∙_, ap, subst}
-use mathlib.Core.Bool.{true}
-use mathlib.Core.Logic.{_⊎_, inl, inr, ⊎-elim}
+use mathlib.Core.Logic.{_⊎_, ⊎-elim}
 use mathlib.Core.List.{List, [], _∷_, _++_, append-nil, map}
-use Prim.Native.Nat.{ℕ, _+_, _-_, _<_, _≤_}
+use Prim.Native.Nat.{ℕ, _-_, _<_, _≤_}
 use native.Mathlib.Omega.{arith}
 use lib.ListN.{length, getD}
-use Rattle.std.specs.Options.{isSome}
 use Rattle.std.specs.declared.option.Option.{Option}
 use Rattle.std.specs.declared.option.Option.the-variants.{None, Some}
 use Rattle.std.proofs.shelf.Tests.{cases-lt}
 use Rattle.std.proofs.shelf.Lists.{length-map, getD-map, getD-past, nil-from-length}
-use Rattle.viterbi.specs.Lists.{Begins, Shared, LongestShared}
+use Rattle.viterbi.specs.Lists.{Begins, Shared}
 use Rattle.survivors.specs.Ring.{Written}
-use Rattle.survivors.specs.Cells.{path}
 use Rattle.survivors.specs.Trees.{Apart, Cleared, Ended, Layered, Next, Settling, Valid, chosen, fromOf, tipOf, tipsOf}
 use Rattle.survivors.specs.Survivors.{Blank, Finished, Grown, HasTip, MayGrow, PathOf, Settled, decided, pathTo, taken}
 use Rattle.survivors.specs.declared.Survivors.{Survivors}
@@ -45,7 +42,7 @@ next-of s preds g =
     let f = g .some in
     let l = given preds (f .0) (f .1) (f .2) in
     record {
-      rest = valid s;
+      valid = valid s;
       many = omega (arith, n, g .few);
       room = omega (arith, n, room-live s (g .room .0) (g .room .1), g .room .2);
       bound = g .bound;
@@ -61,16 +58,16 @@ grown-of s preds m t g =
       none-decided = g .base;
       tips = λ u p e.
           let l = given preds u p e in
-          cell-tip (t .tree) (g .rest) u (omega (arith, m .few)) (g .reach u (omega (arith, n)) (omega (arith, from-some preds u p l e, m .mode u p e)));
+          cell-tip (t .tree) (g .valid) u (omega (arith, m .few)) (g .reach u (omega (arith, n)) (omega (arith, from-some preds u p l e, m .mode u p e)));
       paths = λ u p e.
           let l = given preds u p e in
           let f = from-some preds u p l e in
           g .paths u (omega (arith, n)) (omega (arith, f, m .mode u p e)) ∙ ap (λ (y : ℕ). pathTo s y ++ u ∷ []) f;
       no-tip = λ u e h.
-          let c = tip-cell (t .tree) (g .rest) u h in
+          let c = tip-cell (t .tree) (g .valid) u h in
           ⊎-elim
           (λ (l : u < length preds). omega (arith, c, g .unreach u (omega (arith, n)) (omega (arith, from-none preds u l e))))
-          (λ (l : length preds ≤ u). omega (arith, c, g .tips .beyond u (tip-mode (t .tree) (g .rest) u h) (omega (arith, n))))
+          (λ (l : length preds ≤ u). omega (arith, c, g .tips .beyond u (tip-mode (t .tree) (g .valid) u h) (omega (arith, n))))
           (cases-lt u (length preds));
     }
 
@@ -114,7 +111,7 @@ module _ (s : Survivors) (ring : List ℕ) (t : Survivors) (ring′ : List ℕ) 
     out = g .out;
     longest = record {
       shared = record {
-        within = omega (arith, g .base, g .top, g .rest .holds .shape .span);
+        within = omega (arith, g .base, g .top, g .valid .holds .shape .span);
         begins = λ p f. (pathTo t (f .0), f .2 ∙ on (f .0) (f .1));
       };
       longest = λ e h. ⊎-elim (undecided-most e h) (decided-most e h) (cases-lt (decided t) (taken t));
@@ -126,7 +123,7 @@ module _ (s : Survivors) (ring : List ℕ) (t : Survivors) (ring′ : List ℕ) 
     tips = λ u h d. rw (g .tips d) h;
     no-tip = λ u h. ⊎-elim
         (λ (d : decided t < taken t). (rw (g .tips d) at h, d))
-        (λ (d : taken t ≤ decided t). absurd (no-tips t (g .rest) (omega (arith, g .rest .holds .shape .span)) u h))
+        (λ (d : taken t ≤ decided t). absurd (no-tips t (g .valid) (omega (arith, g .valid .holds .shape .span)) u h))
         (cases-lt (decided t) (taken t));
   }
 
@@ -135,7 +132,7 @@ finished-of s best ring t ring′ g = record {
   none-taken = g .top;
   all-decided = g .base;
   written = g .ring;
-  no-tip = no-tips t (g .rest) (g .base ∙ sym (g .top));
+  no-tip = no-tips t (g .valid) (g .base ∙ sym (g .top));
 }
 
 -- with no undecided reading, nothing happens
@@ -150,4 +147,4 @@ finished-none s best ring l =
     }
 
 pub blank-of : (s : Survivors) → Cleared (s .tree) → Blank s
-blank-of s b = record { none-taken = b .top; none-decided = b .base; no-tip = no-tips s (b .rest) (b .base ∙ sym (b .top)) }
+blank-of s b = record { none-taken = b .top; none-decided = b .base; no-tip = no-tips s (b .valid) (b .base ∙ sym (b .top)) }

@@ -1,23 +1,21 @@
 -- Cells and the paths that they lie on.
-use mathlib.Core.Path.{_≡_, refl, sym, _∙_, ap, subst}
+use mathlib.Core.Path.{_≡_, refl, sym, _∙_, ap}
 use mathlib.Core.Logic.{_≢_, _⊎_, inl, inr, ⊎-elim}
-use mathlib.Core.List.{List, [], _∷_, _++_}
-use mathlib.Core.Bool.{Bool, true, false, cond}
+use mathlib.Core.List.{List, [], _∷_}
+use mathlib.Core.Bool.{cond}
 use Prim.Native.Nat.{ℕ, zero, suc, _+_, _-_, _<_, _≤_}
 use native.Mathlib.Omega.{arith}
-use lib.ListN.{length, getD, set}
-use lib.Dec.{eqb, ltb}
-use Rattle.std.proofs.shelf.Tests.{cases-eq, cases-lt, eq-eqb, ne-eqb}
+use lib.ListN.{length, getD}
+use lib.Dec.{eqb}
+use Rattle.std.proofs.shelf.Tests.{cases-eq, cases-lt, ne-eqb}
 use Rattle.std.proofs.shelf.Lists.{length-push, getD-push, getD-append-left}
-use Rattle.survivors.specs.Sums.{tally}
-use Rattle.survivors.specs.Cells.{at, path, plus, owner, share, under, one, self, Links, Kept}
-use Rattle.survivors.specs.Trees.{tipOf, tipsOf, Holds, held, Valid, Apart, pathOf}
+use Rattle.survivors.specs.Cells.{at, path, owner, share, under, one}
+use Rattle.survivors.specs.Trees.{tipsOf, held, Valid, Apart, pathOf}
 use Rattle.survivors.specs.declared.tree.Cell.{Cell}
 use Rattle.survivors.specs.declared.tree.Tree.{Tree}
 use Rattle.survivors.proofs.Tallies.{tally-ge, tally-some, tally-pair}
 use Rattle.survivors.proofs.Shares.{owner-oldest, owner-parent, owner-used, share-mine, share-bound}
 use Rattle.survivors.proofs.Roots.{seen, oldest-by}
-use Rattle.survivors.proofs.Tips.{held-some}
 use Rattle.survivors.proofs.Sprouts.{tip-used}
 
 -- the cell k layers above c
@@ -33,7 +31,7 @@ pub path-length : (cs : List Cell) (n c : ℕ) → length (path cs n c) ≡ n
 path-length cs zero c = refl
 path-length cs (suc n) c = omega (arith, length-push (path cs n (at cs c .parent)) (at cs c .mode), path-length cs n (at cs c .parent))
 
-pub path-at : (cs : List Cell) (n j c : ℕ) → j < suc n → getD (path cs (suc n) c) j 0 ≡ at cs (above cs (n - j) c) .mode
+path-at : (cs : List Cell) (n j c : ℕ) → j < suc n → getD (path cs (suc n) c) j 0 ≡ at cs (above cs (n - j) c) .mode
 path-at cs zero j c l =
     let e : j ≡ 0 = omega arith in
     rw e refl
@@ -68,14 +66,14 @@ module _ (s : Tree) (r : Valid s) where
   cs = s .cells
 
   -- a cell above is in use, in its layer
-  pub up-one : (x : ℕ) → x < 1024 → 0 < at cs x .refs → s .base < at cs x .layer → (at cs x .parent < 1024) × (0 < at cs (at cs x .parent) .refs) × (at cs (at cs x .parent) .layer + 1 ≡ at cs x .layer)
+  up-one : (x : ℕ) → x < 1024 → 0 < at cs x .refs → s .base < at cs x .layer → (at cs x .parent < 1024) × (0 < at cs (at cs x .parent) .refs) × (at cs (at cs x .parent) .layer + 1 ≡ at cs x .layer)
   up-one x l u d =
       let p = r .holds .shape .up x l u d in
       let o : owner cs (s .base) x ≡ at cs x .parent = owner-parent cs (s .base) x (λ q. omega arith) in
       let k : 0 < under one cs (s .base) (at cs x .parent) = rw o at (owner-used cs (s .base) x l u) in
       (p, omega (arith, r .holds .count (at cs x .parent) p), r .holds .shape .step x l u d)
 
-  pub above-used : (k j c : ℕ) → c < 1024 → 0 < at cs c .refs → at cs c .layer ≡ s .base + j + k → (above cs k c < 1024) × (0 < at cs (above cs k c) .refs) × (at cs (above cs k c) .layer ≡ s .base + j)
+  above-used : (k j c : ℕ) → c < 1024 → 0 < at cs c .refs → at cs c .layer ≡ s .base + j + k → (above cs k c < 1024) × (0 < at cs (above cs k c) .refs) × (at cs (above cs k c) .layer ≡ s .base + j)
   above-used zero j c l u e = (l, u, omega arith)
   above-used (suc k) j c l u e =
       let b = above-used k (suc j) c l u (omega arith) in
@@ -103,7 +101,7 @@ module _ (s : Tree) (r : Valid s) where
       off u ne = rw (ne-eqb (getD (tipsOf s) u 0) x ne) refl
 
   -- every cell in use is above a tip
-  pub on-path : (k x : ℕ) → x < 1024 → 0 < at cs x .refs → at cs x .layer + suc k ≡ s .top → (u : ℕ) × (u < 32) × (getD (tipsOf s) u 0 < 1024) × (above cs k (getD (tipsOf s) u 0) ≡ x)
+  on-path : (k x : ℕ) → x < 1024 → 0 < at cs x .refs → at cs x .layer + suc k ≡ s .top → (u : ℕ) × (u < 32) × (getD (tipsOf s) u 0 < 1024) × (above cs k (getD (tipsOf s) u 0) ≡ x)
   on-path zero x l u e =
       ⊎-elim
       (λ (h : 0 < held (tipsOf s) x). let t = tip x h in (t .0, t .1, omega (arith, t .2), t .2))

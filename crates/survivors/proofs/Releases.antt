@@ -1,24 +1,23 @@
 -- The tree after a reference to a cell is given back.
 use mathlib.Core.Path.{_≡_, refl, sym, _∙_, ap, subst}
-use mathlib.Core.Logic.{_≢_, _⊎_, inl, inr, ⊎-elim}
+use mathlib.Core.Logic.{_≢_, _⊎_, ⊎-elim}
 use mathlib.Core.List.{List}
-use mathlib.Core.Bool.{Bool, true, false, cond}
-use Prim.Native.Nat.{ℕ, zero, suc, _+_, _-_, _<_, _≤_}
+use mathlib.Core.Bool.{Bool, cond}
+use Prim.Native.Nat.{ℕ, _+_, _-_, _<_, _≤_}
 use native.Mathlib.Omega.{arith}
 use lib.ListN.{length, getD, set}
-use lib.Dec.{eqb, ltb}
-use Rattle.std.proofs.shelf.Tests.{cases-eq, cases-lt, lt-ltb, le-ltb, eq-eqb, ne-eqb}
-use Rattle.std.proofs.shelf.Lists.{length-set, getD-set-same, getD-set-other}
-use Rattle.survivors.specs.Sums.{tally}
-use Rattle.survivors.specs.Cells.{void, at, owner, share, under, one, self, inUse, plus, poke, Shape, Stack, Links, Same, Kept}
+use lib.Dec.{ltb}
+use Rattle.std.proofs.shelf.Tests.{cases-eq, lt-ltb}
+use Rattle.std.proofs.shelf.Lists.{length-set}
+use Rattle.survivors.specs.Cells.{at, owner, share, under, one, place, inUse, plus, recount, Links, Same, Kept}
 use Rattle.survivors.specs.declared.tree.Cell.{Cell}
-use Rattle.survivors.proofs.Tallies.{tally-same, tally-change, tally-ge, tally-two, tally-some, tally-only}
-use Rattle.survivors.proofs.Shares.{poke-here, poke-other, poke-refs, poke-heirs, poke-same, same-same, shape-kept, share-same, share-none, share-mine, share-not, owner-oldest, owner-parent, plus-here, plus-other}
-use Rattle.survivors.proofs.Freed.{Gone, gone-kept, under-owner, under-other, use-less, stack-more}
+use Rattle.survivors.proofs.Tallies.{tally-same, tally-ge}
+use Rattle.survivors.proofs.Shares.{recount-other, recount-refs, recount-heirs, recount-same, same-same, shape-kept, share-same, owner-oldest, owner-parent, plus-here, plus-other}
+use Rattle.survivors.proofs.Freed.{Gone, gone-kept, under-owner, under-other, stack-more}
 
 -- the cell c with one reference less
 abbrev pub lowered : List Cell → ℕ → List Cell
-lowered cs c = poke cs c (at cs c .refs - 1) (at cs c .heirs)
+lowered cs c = recount cs c (at cs c .refs - 1) (at cs c .heirs)
 
 module _ {cs : List Cell} {free : List ℕ} {room base top width first : ℕ} (h : ℕ → ℕ) (c : ℕ) (l : c < 1024) (t : Links cs free room base top width first (plus h c)) where
   fits : c < length cs
@@ -35,17 +34,17 @@ module _ {cs : List Cell} {free : List ℕ} {room base top width first : ℕ} (h
       omega (arith, t .stack .live, tally-ge f c 1024 l)
 
   low-same : Same cs (lowered cs c)
-  low-same = poke-same cs c (at cs c .refs - 1) (at cs c .heirs) fits
+  low-same = recount-same cs c (at cs c .refs - 1) (at cs c .heirs) fits
 
   low-here : at (lowered cs c) c .refs ≡ at cs c .refs - 1
-  low-here = poke-refs cs c (at cs c .refs - 1) (at cs c .heirs) fits
+  low-here = recount-refs cs c (at cs c .refs - 1) (at cs c .heirs) fits
 
   low-other : (x : ℕ) → x ≢ c → at (lowered cs c) x ≡ at cs x
-  low-other = poke-other cs c (at cs c .refs - 1) (at cs c .heirs) fits
+  low-other = recount-other cs c (at cs c .refs - 1) (at cs c .heirs) fits
 
   pub low-heirs : (x : ℕ) → at (lowered cs c) x .heirs ≡ at cs x .heirs
   low-heirs x = ⊎-elim
-      (λ (e : x ≡ c). rw (e, poke-heirs cs c (at cs c .refs - 1) (at cs c .heirs) fits) refl)
+      (λ (e : x ≡ c). rw (e, recount-heirs cs c (at cs c .refs - 1) (at cs c .heirs) fits) refl)
       (λ ne. ap (λ (v : Cell). v .heirs) (low-other x ne))
       (cases-eq x c)
 
@@ -90,9 +89,9 @@ module _ {cs : List Cell} {free : List ℕ} {room base top width first : ℕ} (h
               (λ (e : x ≡ c). subst (λ (y : ℕ). at (lowered cs c) y .refs ≡ under one (lowered cs c) base y + h y) (sym e) (let u′ = under-same one c in omega (arith, low-here, t .count c l, plus-here h c, more)))
               (λ (ne : x ≡ c → ⊥). ap (λ (v : Cell). v .refs) (low-other x ne) ∙ omega (arith, t .count x m, plus-other h c x ne))
               (cases-eq x c);
-          heir = λ x m u. low-heirs x ∙ t .heir x m (stay-kept .used x m u) ∙ under-same self x;
+          heir = λ x m u. low-heirs x ∙ t .heir x m (stay-kept .used x m u) ∙ under-same place x;
           wide = t .wide ∙ under-same one 1024;
-          oldest = t .oldest ∙ under-same self 1024;
+          oldest = t .oldest ∙ under-same place 1024;
         }
 
   -- c is free
@@ -115,7 +114,7 @@ module _ {cs : List Cell} {free : List ℕ} {room base top width first : ℕ} (h
       width-left = omega (arith, t .wide, less one)
 
       pub first-left : c ≤ first
-      first-left = omega (arith, t .oldest, less self)
+      first-left = omega (arith, t .oldest, less place)
 
       pub end : Links (lowered cs c) (set free room c) (room + 1) base top (width - 1) (first - c) h
       end = record {
@@ -127,9 +126,9 @@ module _ {cs : List Cell} {free : List ℕ} {room base top width first : ℕ} (h
             (λ (e : x ≡ c). subst (λ (y : ℕ). at (lowered cs c) y .refs ≡ under one (lowered cs c) base y + h y) (sym e) (omega (arith, low-here, t .count c l, plus-here h c, last, others one c l)))
             (λ (ne : x ≡ c → ⊥). ap (λ (v : Cell). v .refs) (low-other x ne) ∙ omega (arith, t .count x m, plus-other h c x ne, others one x m))
             (cases-eq x c);
-        heir = λ x m u. low-heirs x ∙ t .heir x m (gone-kept cs (lowered cs c) c low-gone .used x m u) ∙ sym (others self x m);
+        heir = λ x m u. low-heirs x ∙ t .heir x m (gone-kept cs (lowered cs c) c low-gone .used x m u) ∙ sym (others place x m);
         wide = omega (arith, t .wide, less one);
-        oldest = omega (arith, t .oldest, less self);
+        oldest = omega (arith, t .oldest, less place);
       }
 
     -- c has a parent, which loses a reference
@@ -159,29 +158,29 @@ module _ {cs : List Cell} {free : List ℕ} {room base top width first : ℕ} (h
       p-used = omega (arith, t .count (at cs c .parent) p-below, less-p one)
 
       pub heirs-left : c ≤ at cs (at cs c .parent) .heirs
-      heirs-left = omega (arith, t .heir (at cs c .parent) p-below p-used, less-p self)
+      heirs-left = omega (arith, t .heir (at cs c .parent) p-below p-used, less-p place)
 
       -- the cells with c free, and c taken from its parent's heirs
       abbrev moved : List Cell
-      moved = poke (lowered cs c) (at cs c .parent) (at (lowered cs c) (at cs c .parent) .refs) (at (lowered cs c) (at cs c .parent) .heirs - c)
+      moved = recount (lowered cs c) (at cs c .parent) (at (lowered cs c) (at cs c .parent) .refs) (at (lowered cs c) (at cs c .parent) .heirs - c)
 
       p-fits : at cs c .parent < length (lowered cs c)
       p-fits = rw (length-set cs c _, t .size) p-below
 
       moved-other : (x : ℕ) → x ≢ at cs c .parent → at moved x ≡ at (lowered cs c) x
-      moved-other = poke-other (lowered cs c) (at cs c .parent) (at (lowered cs c) (at cs c .parent) .refs) (at (lowered cs c) (at cs c .parent) .heirs - c) p-fits
+      moved-other = recount-other (lowered cs c) (at cs c .parent) (at (lowered cs c) (at cs c .parent) .refs) (at (lowered cs c) (at cs c .parent) .heirs - c) p-fits
 
       moved-refs : (x : ℕ) → at moved x .refs ≡ at (lowered cs c) x .refs
       moved-refs x = ⊎-elim
-          (λ (e : x ≡ at cs c .parent). subst (λ (y : ℕ). at moved y .refs ≡ at (lowered cs c) y .refs) (sym e) (poke-refs (lowered cs c) (at cs c .parent) (at (lowered cs c) (at cs c .parent) .refs) (at (lowered cs c) (at cs c .parent) .heirs - c) p-fits))
+          (λ (e : x ≡ at cs c .parent). subst (λ (y : ℕ). at moved y .refs ≡ at (lowered cs c) y .refs) (sym e) (recount-refs (lowered cs c) (at cs c .parent) (at (lowered cs c) (at cs c .parent) .refs) (at (lowered cs c) (at cs c .parent) .heirs - c) p-fits))
           (λ ne. ap (λ (v : Cell). v .refs) (moved-other x ne))
           (cases-eq x (at cs c .parent))
 
       moved-heirs : at moved (at cs c .parent) .heirs ≡ at cs (at cs c .parent) .heirs - c
-      moved-heirs = poke-heirs (lowered cs c) (at cs c .parent) (at (lowered cs c) (at cs c .parent) .refs) (at (lowered cs c) (at cs c .parent) .heirs - c) p-fits ∙ ap (λ (n : ℕ). n - c) (low-heirs (at cs c .parent))
+      moved-heirs = recount-heirs (lowered cs c) (at cs c .parent) (at (lowered cs c) (at cs c .parent) .refs) (at (lowered cs c) (at cs c .parent) .heirs - c) p-fits ∙ ap (λ (n : ℕ). n - c) (low-heirs (at cs c .parent))
 
       moved-same : Same cs moved
-      moved-same = same-same cs (lowered cs c) moved low-same (poke-same (lowered cs c) (at cs c .parent) (at (lowered cs c) (at cs c .parent) .refs) (at (lowered cs c) (at cs c .parent) .heirs - c) p-fits)
+      moved-same = same-same cs (lowered cs c) moved low-same (recount-same (lowered cs c) (at cs c .parent) (at (lowered cs c) (at cs c .parent) .refs) (at (lowered cs c) (at cs c .parent) .heirs - c) p-fits)
 
       pub moved-gone : Gone cs moved c
       moved-gone = record { here = l; was = some; none = moved-refs c ∙ low-gone .none; others = λ x m ne. moved-refs x ∙ low-gone .others x m ne; same = moved-same }
@@ -210,12 +209,12 @@ module _ {cs : List Cell} {free : List ℕ} {room base top width first : ℕ} (h
             (cases-eq x (at cs c .parent));
         heir = λ x m u.
             ⊎-elim
-            (λ (e : x ≡ at cs c .parent). subst (λ (y : ℕ). at moved y .heirs ≡ under self moved base y) (sym e)
-            (omega (arith, moved-heirs, t .heir (at cs c .parent) p-below p-used, less-m self)))
-            (λ (np : x ≡ at cs c .parent → ⊥). ap (λ (v : Cell). v .heirs) (moved-other x np) ∙ low-heirs x ∙ t .heir x m (gone-kept cs moved c moved-gone .used x m u) ∙ sym (others-m self x np))
+            (λ (e : x ≡ at cs c .parent). subst (λ (y : ℕ). at moved y .heirs ≡ under place moved base y) (sym e)
+            (omega (arith, moved-heirs, t .heir (at cs c .parent) p-below p-used, less-m place)))
+            (λ (np : x ≡ at cs c .parent → ⊥). ap (λ (v : Cell). v .heirs) (moved-other x np) ∙ low-heirs x ∙ t .heir x m (gone-kept cs moved c moved-gone .used x m u) ∙ sym (others-m place x np))
             (cases-eq x (at cs c .parent));
         wide = t .wide ∙ sym (others-m one 1024 (λ q. omega (arith, p-below)));
-        oldest = t .oldest ∙ sym (others-m self 1024 (λ q. omega (arith, p-below)));
+        oldest = t .oldest ∙ sym (others-m place 1024 (λ q. omega (arith, p-below)));
       }
 
       -- the next cell is in an older layer

@@ -1,41 +1,39 @@
 -- What a change of one cell's counts leaves of the tree.
 use mathlib.Core.Path.{_≡_, refl, sym, _∙_, ap, subst}
-use mathlib.Core.Logic.{_≢_, _⊎_, inl, inr, ⊎-elim}
+use mathlib.Core.Logic.{_≢_, _⊎_, ⊎-elim}
 use mathlib.Core.List.{List}
 use mathlib.Core.Bool.{Bool, true, false, cond}
-use Prim.Native.Nat.{ℕ, zero, suc, _+_, _-_, _<_, _≤_}
+use Prim.Native.Nat.{ℕ, _+_, _<_, _≤_}
 use native.Mathlib.Omega.{arith}
-use lib.ListN.{length, getD, set}
+use lib.ListN.{length}
 use lib.Dec.{eqb, ltb}
-use Rattle.std.proofs.shelf.Tests.{cases-eq, cases-lt, lt-ltb, le-ltb, eq-eqb, ne-eqb}
-use Rattle.std.proofs.shelf.Lists.{length-set, getD-set-same, getD-set-other}
-use Rattle.std.proofs.shelf.Ways.{tells}
-use Rattle.survivors.specs.Sums.{tally}
-use Rattle.survivors.specs.Cells.{void, at, owner, share, under, one, self, inUse, plus, poke, Shape, Stack, Links, Same, Kept}
+use Rattle.std.proofs.shelf.Tests.{cases-eq, lt-ltb, eq-eqb, ne-eqb}
+use Rattle.std.proofs.shelf.Lists.{getD-set-same, getD-set-other}
+use Rattle.survivors.specs.Cells.{void, at, owner, share, under, one, place, plus, recount, Shape, Same, Kept}
 use Rattle.survivors.specs.declared.tree.Cell.{Cell}
-use Rattle.survivors.proofs.Tallies.{tally-same, tally-change, tally-ge, tally-two, tally-some, tally-only, tally-none, tally-bound}
+use Rattle.survivors.proofs.Tallies.{tally-ge, tally-none, tally-bound}
 
 module _ (cs : List Cell) (i r k : ℕ) (l : i < length cs) where
-  pub poke-here : at (poke cs i r k) i ≡ record { layer = at cs i .layer; heirs = k; parent = at cs i .parent; refs = r; mode = at cs i .mode }
-  poke-here = getD-set-same cs i _ void l
+  recount-here : at (recount cs i r k) i ≡ record { layer = at cs i .layer; heirs = k; parent = at cs i .parent; refs = r; mode = at cs i .mode }
+  recount-here = getD-set-same cs i _ void l
 
-  pub poke-other : (x : ℕ) → x ≢ i → at (poke cs i r k) x ≡ at cs x
-  poke-other x ne = getD-set-other cs i x _ void ne
+  pub recount-other : (x : ℕ) → x ≢ i → at (recount cs i r k) x ≡ at cs x
+  recount-other x ne = getD-set-other cs i x _ void ne
 
-  pub poke-refs : at (poke cs i r k) i .refs ≡ r
-  poke-refs = ap (λ (v : Cell). v .refs) poke-here
+  pub recount-refs : at (recount cs i r k) i .refs ≡ r
+  recount-refs = ap (λ (v : Cell). v .refs) recount-here
 
-  pub poke-heirs : at (poke cs i r k) i .heirs ≡ k
-  poke-heirs = ap (λ (v : Cell). v .heirs) poke-here
+  pub recount-heirs : at (recount cs i r k) i .heirs ≡ k
+  recount-heirs = ap (λ (v : Cell). v .heirs) recount-here
 
-  pub poke-same : Same cs (poke cs i r k)
-  poke-same =
-      let any : (B : Type 0) (f : Cell → B) → f (at (poke cs i r k) i) ≡ f (at cs i) → (x : ℕ) → f (at (poke cs i r k) x) ≡ f (at cs x) =
-      λ B f e x. ⊎-elim (λ (q : x ≡ i). subst (λ (y : ℕ). f (at (poke cs i r k) y) ≡ f (at cs y)) (sym q) e) (λ ne. ap f (poke-other x ne)) (cases-eq x i) in
+  pub recount-same : Same cs (recount cs i r k)
+  recount-same =
+      let any : (B : Type 0) (f : Cell → B) → f (at (recount cs i r k) i) ≡ f (at cs i) → (x : ℕ) → f (at (recount cs i r k) x) ≡ f (at cs x) =
+      λ B f e x. ⊎-elim (λ (q : x ≡ i). subst (λ (y : ℕ). f (at (recount cs i r k) y) ≡ f (at cs y)) (sym q) e) (λ ne. ap f (recount-other x ne)) (cases-eq x i) in
       record {
-        layer = λ x _. any ℕ (λ v. v .layer) (ap (λ (v : Cell). v .layer) poke-here) x;
-        parent = λ x _. any ℕ (λ v. v .parent) (ap (λ (v : Cell). v .parent) poke-here) x;
-        mode = λ x _. any ℕ (λ v. v .mode) (ap (λ (v : Cell). v .mode) poke-here) x;
+        layer = λ x _. any ℕ (λ v. v .layer) (ap (λ (v : Cell). v .layer) recount-here) x;
+        parent = λ x _. any ℕ (λ v. v .parent) (ap (λ (v : Cell). v .parent) recount-here) x;
+        mode = λ x _. any ℕ (λ v. v .mode) (ap (λ (v : Cell). v .mode) recount-here) x;
       }
 
 pub same-same : (a b c : List Cell) → Same a b → Same b c → Same a c
@@ -118,8 +116,8 @@ under-zero w cs base o e =
 pub under-one-bound : (cs : List Cell) (base o : ℕ) → under one cs base o ≤ 1024
 under-one-bound cs base o = omega (arith, tally-bound (share one cs base o) 1 1024 (λ x l. share-bound one cs base o x))
 
-pub under-self-bound : (cs : List Cell) (base o : ℕ) → under self cs base o ≤ 1048576
-under-self-bound cs base o = omega (arith, tally-bound (share self cs base o) 1024 1024 (λ x l. omega (arith, share-bound self cs base o x)))
+pub under-self-bound : (cs : List Cell) (base o : ℕ) → under place cs base o ≤ 1048576
+under-self-bound cs base o = omega (arith, tally-bound (share place cs base o) 1024 1024 (λ x l. omega (arith, share-bound place cs base o x)))
 
 -- a cell that owns another is in use
 pub owner-used : (cs : List Cell) (base x : ℕ) → x < 1024 → 0 < at cs x .refs → 0 < under one cs base (owner cs base x)

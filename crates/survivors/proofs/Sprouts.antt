@@ -6,10 +6,10 @@ use Rattle.std.specs.declared.option.Option.{Option}
 use Rattle.std.specs.declared.option.Option.the-variants.{Some, None}
 use Prim.Native.Nat.{ℕ, zero, suc, _+_, _-_, _<_, _≤_}
 use native.Mathlib.Omega.{arith}
-use lib.ListN.{length, getD, set, replicate}
+use lib.ListN.{length, getD, set}
 use Rattle.std.proofs.shelf.Tests.{cases-eq, cases-lt}
-use Rattle.std.proofs.shelf.Lists.{length-set, getD-set-same, getD-set-other, length-replicate, getD-replicate, getD-map}
-use Rattle.survivors.specs.Cells.{at, path, plus, owner, under, one, Links, Kept}
+use Rattle.std.proofs.shelf.Lists.{getD-set-same, getD-set-other, getD-map}
+use Rattle.survivors.specs.Cells.{at, path, owner, under, one}
 use Rattle.survivors.specs.Trees.{tipOf, tipsOf, Real, chosen, fromOf, Holds, held, both, Valid, Tips, Attached, Ready, Next, Sprout, Shed, Layered, pathOf}
 use Rattle.survivors.specs.declared.tree.Cell.{Cell}
 use Rattle.survivors.specs.declared.tree.Tree.{Tree}
@@ -17,7 +17,7 @@ use Rattle.survivors.proofs.Shares.{owner-parent, owner-used}
 use Rattle.survivors.proofs.Decides.{held-none}
 use Rattle.survivors.proofs.Tips.{tree-held, held-bound, held-some, held-put, tips-set}
 
-pub tips-more : (tips : List ℕ) (n : ℕ) → Tips tips n → Tips tips (n + 1)
+tips-more : (tips : List ℕ) (n : ℕ) → Tips tips n → Tips tips (n + 1)
 tips-more tips n t = record { many = t .many; each = t .each; beyond = λ u l k. t .beyond u l (omega arith) }
 
 -- the tip of a mode is in use
@@ -75,7 +75,7 @@ module _ (o : Tree) (preds : List ℕ) (x : Next o preds) (n : ℕ) (s : Tree) (
     p-below d = x .from n l near (deep d)
 
     p-used : (d : s .base < s .top) → 0 < at (o .cells) (getD (tipsOf o) (getD preds n 0) 0) .refs
-    p-used d = tip-used o (x .rest) (getD preds n 0) near (p-below d)
+    p-used d = tip-used o (x .valid) (getD preds n 0) near (p-below d)
 
     pub ready : Ready s (both new (held (tipsOf o))) n (getD (tipsOf s) (getD preds n 0) 0)
     ready = record {
@@ -86,7 +86,7 @@ module _ (o : Tree) (preds : List ℕ) (x : Next o preds) (n : ℕ) (s : Tree) (
       fresh = λ y yl u e q. omega (arith, g .young y yl u (e ∙ g .top), q);
       below = λ d. rw p-is (p-below d);
       used = λ d. rw p-is (g .uses (getD (tipsOf o) (getD preds n 0) 0) (p-below d) (p-used d));
-      layer = λ d. rw (p-is, g .layer (getD (tipsOf o) (getD preds n 0) 0) (p-below d) (p-used d)) (x .rest .newest (getD preds n 0) near (p-below d) ∙ sym (g .top));
+      layer = λ d. rw (p-is, g .layer (getD (tipsOf o) (getD preds n 0) 0) (p-below d) (p-used d)) (x .valid .newest (getD preds n 0) near (p-below d) ∙ sym (g .top));
     }
 
     pub grown : (i : ℕ) (t : Tree) → Attached s n (getD (tipsOf s) (getD preds n 0) 0) i t → Sprout o preds (n + 1) t (set new n i)
@@ -145,14 +145,14 @@ module _ (o : Tree) (preds : List ℕ) (x : Next o preds) (n : ℕ) (s : Tree) (
 
 pub sprout-none : (o : Tree) (preds : List ℕ) → Next o preds → (new : List ℕ) → Tips new 0 → Sprout o preds 0 o new
 sprout-none o preds x new b = record {
-  holds = tree-held       (λ y yl. omega (arith, held-none new y (λ u ul q. omega (arith, b .beyond u ul (omega arith))))) (x .rest .holds);
+  holds = tree-held       (λ y yl. omega (arith, held-none new y (λ u ul q. omega (arith, b .beyond u ul (omega arith))))) (x .valid .holds);
   tips = b;
   base = refl;
   top = refl;
   oldTips = refl;
   modes = refl;
   room = omega arith;
-  young = λ y yl u e. absurd (omega (arith, x .rest .old y yl u, e));
+  young = λ y yl u e. absurd (omega (arith, x .valid .old y yl u, e));
   uses = λ y yl u. u;
   layer = λ y yl u. refl;
   parent = λ y yl u. refl;
@@ -205,8 +205,8 @@ module _ (o : Tree) (preds : List ℕ) (x : Next o preds) (s : Tree) (raw : List
       let a : u < length preds = ⊎-elim (λ (k : u < length preds). k) (λ (k : length preds ≤ u). absurd (omega (arith, g .tips .beyond u ul k))) (cases-lt u (length preds)) in
       (a, ⊎-elim (λ (k : getD preds u 0 < 32). k) (λ (k : 32 ≤ getD preds u 0). absurd (omega (arith, g .unreach u a k))) (cases-lt (getD preds u 0) 32))
 
-  fresh-rest : Valid fresh
-  fresh-rest = record {
+  fresh-valid : Valid fresh
+  fresh-valid = record {
     holds = record {
       size = after .size;
       shape = record {
@@ -238,7 +238,7 @@ module _ (o : Tree) (preds : List ℕ) (x : Next o preds) (s : Tree) (raw : List
   paths-more u ul k =
       let m = g .reach u ul k in
       let n = o .top - o .base in
-      let e : (t .top + 1) - t .base ≡ suc n = omega (arith, d .top, g .top, d .base, g .base, x .rest .holds .shape .span) in
+      let e : (t .top + 1) - t .base ≡ suc n = omega (arith, d .top, g .top, d .base, g .base, x .valid .holds .shape .span) in
       let c = getD (tipsOf o) (getD preds u 0) 0 in
       let q : at (t .cells) (getD new u 0) .parent ≡ c = d .kept .same .parent (getD new u 0) m ∙ g .newParent u ul k in
       let r : at (t .cells) (getD new u 0) .mode ≡ u = d .kept .same .mode (getD new u 0) m ∙ g .newMode u ul k in
@@ -256,14 +256,14 @@ module _ (o : Tree) (preds : List ℕ) (x : Next o preds) (s : Tree) (raw : List
           let m = x .from u ul k z in
           let n = (o .top - o .base) - 1 in
           let e : o .top - o .base ≡ suc n = omega arith in
-          rw e (path-frame o (held (tipsOf o)) (x .rest .holds) (t .cells)
+          rw e (path-frame o (held (tipsOf o)) (x .valid .holds) (t .cells)
           (λ y yl w. d .kept .same .parent y yl ∙ g .parent y yl w)
           (λ y yl w. d .kept .same .mode y yl ∙ g .mode y yl w)
-          n c m (tip-used o (x .rest) (getD preds u 0) k m) (omega (arith, x .rest .newest (getD preds u 0) k m)))
+          n c m (tip-used o (x .valid) (getD preds u 0) k m) (omega (arith, x .valid .newest (getD preds u 0) k m)))
 
   pub grown-all : Layered o preds fresh
   grown-all = record {
-    rest = fresh-rest;
+    valid = fresh-valid;
     base = d .base ∙ g .base;
     top = ap (λ (n : ℕ). n + 1) (d .top ∙ g .top);
     tips = g .tips;

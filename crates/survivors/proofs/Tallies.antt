@@ -1,6 +1,6 @@
 -- Laws of tally.
-use mathlib.Core.Path.{_≡_, refl, sym, _∙_, ap, subst}
-use mathlib.Core.Logic.{_≢_, _⊎_, inl, inr, ⊎-elim}
+use mathlib.Core.Path.{_≡_, refl, subst}
+use mathlib.Core.Logic.{_≢_, _⊎_, ⊎-elim}
 use Prim.Native.Nat.{ℕ, zero, suc, _+_, _*_, _<_, _≤_}
 use native.Mathlib.Nat.{suc-mul}
 use native.Mathlib.Omega.{arith}
@@ -64,13 +64,6 @@ tally-only f i n l h =
     none zero = refl
     none (suc n) = omega (arith, none n)
 
-pub tally-le : (f g : ℕ → ℕ) (n : ℕ) → ((x : ℕ) → x < n → f x ≤ g x) → tally f n ≤ tally g n
-unfolding tally
-tally-le f g zero h = omega arith
-tally-le f g (suc n) h =
-    let below : tally f n ≤ tally g n = tally-le f g n (λ x l. h x (omega arith)) in
-    omega (arith, h n (omega arith))
-
 pub tally-bound : (f : ℕ → ℕ) (m n : ℕ) → ((x : ℕ) → x < n → f x ≤ m) → tally f n ≤ n * m
 unfolding tally
 tally-bound f m zero h = omega arith
@@ -99,15 +92,3 @@ tally-pair f (suc n) h k =
     (s .0, s .1, s .2, omega (arith, s .3), s .4, s .5))
     (cases-lt 0 (f n))
 
-pub tally-plus : (f g : ℕ → ℕ) (n : ℕ) → tally (λ x. f x + g x) n ≡ tally f n + tally g n
-unfolding tally
-tally-plus f g zero = refl
-tally-plus f g (suc n) = omega (arith, tally-plus f g n)
-
-pub tally-swap : (f : ℕ → ℕ → ℕ) (n m : ℕ) → tally (λ x. tally (λ y. f x y) m) n ≡ tally (λ y. tally (λ x. f x y) n) m
-unfolding tally
-tally-swap f zero m = sym (tally-none (λ y. tally (λ x. f x y) zero) m (λ y l. refl))
-tally-swap f (suc n) m =
-    let below = tally-swap f n m in
-    let more = tally-plus (λ y. tally (λ x. f x y) n) (λ y. f n y) m in
-    omega (arith, below, more)

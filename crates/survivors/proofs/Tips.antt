@@ -1,23 +1,23 @@
 -- References that the tips hold.
 use mathlib.Core.Path.{_≡_, refl, sym, _∙_, ap, subst}
-use mathlib.Core.Logic.{_≢_, _⊎_, inl, inr, ⊎-elim}
-use mathlib.Core.List.{List, [], _∷_, _++_, map}
+use mathlib.Core.Logic.{_≢_, _⊎_, ⊎-elim}
+use mathlib.Core.List.{List, map}
 use mathlib.Core.Bool.{Bool, true, false, cond}
-use Prim.Native.Nat.{ℕ, zero, suc, _+_, _-_, _%_, _<_, _≤_}
+use Prim.Native.Nat.{ℕ, _+_, _<_, _≤_}
 use native.Mathlib.Omega.{arith}
 use lib.ListN.{length, getD, set}
-use lib.Dec.{eqb, ltb}
+use lib.Dec.{eqb}
 use Rattle.std.proofs.shelf.Tests.{cases-eq, cases-lt, eq-eqb, ne-eqb}
 use Rattle.std.proofs.shelf.Lists.{length-set, getD-set-same, getD-set-other, map-set, getD-map, length-map, set-past}
 use Rattle.std.specs.declared.option.Option.{Option}
 use Rattle.std.specs.declared.option.Option.the-variants.{Some, None}
 use Rattle.survivors.specs.Sums.{tally}
-use Rattle.survivors.specs.Cells.{at, plus, Links, Kept}
+use Rattle.survivors.specs.Cells.{plus, Links, Kept}
 use Rattle.survivors.specs.Trees.{tipOf, tipsOf, Real, Holds, held, both, Tips, Released, Shed}
 use Rattle.survivors.specs.declared.tree.Cell.{Cell}
 use Rattle.survivors.specs.declared.tree.Tree.{Tree}
-use Rattle.survivors.proofs.Tallies.{tally-change, tally-ge, tally-none, tally-bound}
-use Rattle.survivors.proofs.Shares.{plus-here, plus-other, same-same, kept-kept}
+use Rattle.survivors.proofs.Tallies.{tally-change, tally-ge, tally-bound}
+use Rattle.survivors.proofs.Shares.{plus-here, plus-other, kept-kept}
 use Rattle.survivors.proofs.Decides.{held-none}
 
 -- only what is held of the cells matters
@@ -61,7 +61,7 @@ plus-nil a x = ⊎-elim
     (cases-eq x a)
 
 -- a tip's reference, taken out of the tips
-pub held-clear : (tips : List ℕ) (h : ℕ → ℕ) (j : ℕ) → length tips ≡ 32 → j < 32 → (x : ℕ) → x < 1024 → both tips h x ≡ plus (both (set tips j 1024) h) (getD tips j 0) x
+held-clear : (tips : List ℕ) (h : ℕ → ℕ) (j : ℕ) → length tips ≡ 32 → j < 32 → (x : ℕ) → x < 1024 → both tips h x ≡ plus (both (set tips j 1024) h) (getD tips j 0) x
 held-clear tips h j n l x m =
     let k = held-set tips j 1024 x n l in
     let z = off 1024 x (λ q. omega arith) in
@@ -191,7 +191,3 @@ read-some tips i c l e = getD-map tipOf tips i None 0 (subst (λ (n : ℕ). i < 
 
 pub read-none : (tips : List (Option ℕ)) (i : ℕ) → i < length (map tipOf tips) → getD tips i None ≡ None → getD (map tipOf tips) i 0 ≡ 1024
 read-none tips i l e = getD-map tipOf tips i None 0 (subst (λ (n : ℕ). i < n) (length-map tips tipOf) l) ∙ ap tipOf e
-
-pub not-some : (o : Option ℕ) → ((c : ℕ) → o ≡ Some c → ⊥) → o ≡ None
-not-some (Some c) h = absurd (h c refl)
-not-some None h = refl

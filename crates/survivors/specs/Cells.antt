@@ -2,7 +2,7 @@
 use mathlib.Core.Path.{_≡_}
 use mathlib.Core.Logic.{_≢_}
 use mathlib.Core.List.{List, [], _∷_, _++_}
-use mathlib.Core.Bool.{Bool, true, false, cond}
+use mathlib.Core.Bool.{cond}
 use Prim.Native.Nat.{ℕ, zero, suc, _+_, _<_, _≤_}
 use lib.ListN.{length, getD, set}
 use lib.Dec.{eqb, ltb}
@@ -29,8 +29,8 @@ under w cs base o = tally (share w cs base o) 1024
 abbrev pub one : ℕ → ℕ
 one x = 1
 
-abbrev pub self : ℕ → ℕ
-self x = x
+abbrev pub place : ℕ → ℕ
+place x = x
 
 abbrev pub inUse : List Cell → ℕ
 inUse cs = tally (λ x. cond (ltb 0 (at cs x .refs)) 1 0) 1024
@@ -45,8 +45,8 @@ abbrev pub plus : (ℕ → ℕ) → ℕ → ℕ → ℕ
 plus held c x = cond (eqb x c) (held x + 1) (held x)
 
 -- the same cell with other counts
-abbrev pub poke : List Cell → ℕ → ℕ → ℕ → List Cell
-poke cs i r k = set cs i (record { layer = at cs i .layer; heirs = k; parent = at cs i .parent; refs = r; mode = at cs i .mode })
+abbrev pub recount : List Cell → ℕ → ℕ → ℕ → List Cell
+recount cs i r k = set cs i (record { layer = at cs i .layer; heirs = k; parent = at cs i .parent; refs = r; mode = at cs i .mode })
 
 -- the cells in use stand in layers, and each but the oldest below one of the layer before
 pub record Shape (cs : List Cell) (base top : ℕ) : Type 0 where
@@ -72,9 +72,9 @@ pub record Links (cs : List Cell) (free : List ℕ) (room base top width first :
   pub shape : Shape cs base top
   pub stack : Stack cs free room
   pub count : (x : ℕ) → x < 1024 → at cs x .refs ≡ under one cs base x + held x
-  pub heir : (x : ℕ) → x < 1024 → 0 < at cs x .refs → at cs x .heirs ≡ under self cs base x
+  pub heir : (x : ℕ) → x < 1024 → 0 < at cs x .refs → at cs x .heirs ≡ under place cs base x
   pub wide : width ≡ under one cs base 1024
-  pub oldest : first ≡ under self cs base 1024
+  pub oldest : first ≡ under place cs base 1024
 
 -- every cell is where it was in the tree
 pub record Same (old new : List Cell) : Type 0 where

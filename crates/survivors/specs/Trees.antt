@@ -4,14 +4,13 @@ use mathlib.Core.Logic.{_≢_}
 use mathlib.Core.List.{List, [], _∷_, _++_, map}
 use Rattle.std.specs.declared.option.Option.{Option}
 use Rattle.std.specs.declared.option.Option.the-variants.{Some, None}
-use mathlib.Core.Bool.{Bool, true, false, cond}
-use Prim.Native.Nat.{ℕ, zero, suc, _+_, _-_, _%_, _^_, _<_, _≤_}
-use lib.ListN.{length, getD, set}
-use lib.Dec.{eqb, ltb}
+use mathlib.Core.Bool.{cond}
+use Prim.Native.Nat.{ℕ, _+_, _-_, _^_, _<_, _≤_}
+use lib.ListN.{length, getD}
+use lib.Dec.{eqb}
 use Rattle.survivors.specs.Sums.{tally}
 use Rattle.survivors.specs.Ring.{Written}
 use Rattle.survivors.specs.Cells.{Links, at, path, plus, Kept}
-use Rattle.survivors.specs.declared.tree.Cell.{Cell}
 use Rattle.survivors.specs.declared.tree.Tree.{Tree}
 
 -- a tip as a number: 1024 for none
@@ -106,7 +105,7 @@ pub record Valid (s : Tree) : Type 0 where
 
 -- the modes out, with which every path began, are decided
 pub record Settling (s : Tree) (r : List ℕ) (t : Tree) (r′ : List ℕ) : Type 0 where
-  pub rest : Valid t
+  pub valid : Valid t
   pub out : List ℕ
   pub base : t .base ≡ s .base + length out
   pub top : t .top ≡ s .top
@@ -131,7 +130,7 @@ pub record Shed (s : Tree) (t : Tree) : Type 0 where
 
 -- the tree s can take one more layer, in which the mode u goes on from the mode preds[u] (is not reachable where that is 32 or more)
 pub record Next (s : Tree) (preds : List ℕ) : Type 0 where
-  pub rest : Valid s
+  pub valid : Valid s
   pub many : length preds ≤ 32
   pub room : length preds ≤ s .room
   pub bound : s .top + 1 < 2 ^ 32
@@ -160,7 +159,7 @@ pub record Sprout (o : Tree) (preds : List ℕ) (n : ℕ) (s : Tree) (new : List
 
 -- the tree has one more layer
 pub record Layered (s : Tree) (preds : List ℕ) (t : Tree) : Type 0 where
-  pub rest : Valid t
+  pub valid : Valid t
   pub base : t .base ≡ s .base
   pub top : t .top ≡ s .top + 1
   pub tips : Tips (tipsOf t) (length preds)
@@ -170,7 +169,7 @@ pub record Layered (s : Tree) (preds : List ℕ) (t : Tree) : Type 0 where
 
 -- a tree with nothing in it
 pub record Cleared (s : Tree) : Type 0 where
-  pub rest : Valid s
+  pub valid : Valid s
   pub base : s .base ≡ 0
   pub top : s .top ≡ 0
   pub tips : Tips (tipsOf s) 0
@@ -187,7 +186,7 @@ pub record Apart (s : Tree) : Type 0 where
 
 -- the whole path to the mode best is decided, and nothing is left in the tree
 pub record Ended (s : Tree) (best : ℕ) (r : List ℕ) (t : Tree) (r′ : List ℕ) : Type 0 where
-  pub rest : Valid t
+  pub valid : Valid t
   pub base : t .base ≡ s .top
   pub top : t .top ≡ s .top
   pub ring : Written r (s .base) (pathOf s best) r′

@@ -6,7 +6,7 @@ pub clear-requires : need.clear-requires
 clear-requires c κs = valid (c .args .self .now)
 
 pub ghost-self : need.ghost-self
-ghost-self c = (∣ c .clear .ensures .rest ∣₁, tt)
+ghost-self c = (∣ c .clear .ensures .valid ∣₁, tt)
 
 pub returns : need.returns
 returns c = blank-of _ (c .clear .ensures)

@@ -1,4 +1,3 @@
-use native.Mathlib.Omega.{arith}
 use Rattle.survivors.proofs.Laws.{valid, tip-cell, tip-modes}
 use Rattle.survivors.proofs.Outcomes.{finished-of, finished-none}
 use Rattle.survivors.proofs.Survivors.finish.Needs as need
@@ -10,7 +9,7 @@ finish-requires c κs =
     record { valid = valid s; mode = tip-modes (s .tree) (valid s) (c .args .best) h; tip = tip-cell (s .tree) (valid s) (c .args .best) h }
 
 pub ghost-self : need.ghost-self
-ghost-self c = (∣ c .finish .ensures .rest ∣₁, tt)
+ghost-self c = (∣ c .finish .ensures .valid ∣₁, tt)
 
 pub returns-then-self : need.returns-then-self
 returns-then-self c = finished-of (c .args .self .now) (c .args .best) (c .args .ring .now) _ (c .finish .last .ring) (c .finish .ensures)

@@ -6,7 +6,7 @@ pub settle-requires : need.settle-requires
 settle-requires c κs = valid (c .args .self .now)
 
 pub ghost-self : need.ghost-self
-ghost-self c = (∣ c .settle .ensures .decided .rest ∣₁, tt)
+ghost-self c = (∣ c .settle .ensures .decided .valid ∣₁, tt)
 
 pub returns : need.returns
 returns c = settled-of (c .args .self .now) (c .args .ring .now) _ (c .settle .last .ring) (c .settle .ensures .decided) (c .settle .ensures .most)

@@ -1,15 +1,13 @@
-use mathlib.Core.Path.{_≡_, refl, sym, _∙_, ap}
+use mathlib.Core.Path.{refl, ap}
 use mathlib.Core.Logic.{_≢_}
-use mathlib.Core.List.{List}
-use Prim.Native.Nat.{ℕ, _+_, _-_, _<_, _≤_}
+use Prim.Native.Nat.{ℕ, _-_, _<_}
 use native.Mathlib.Omega.{arith}
-use Rattle.survivors.specs.Cells.{at, plus, one, self, under, Links}
-use Rattle.survivors.specs.Trees.{Holds, Attached, Ready}
+use Rattle.survivors.specs.Trees.{Ready}
 use Rattle.survivors.specs.declared.tree.Tree.{Tree}
 use Rattle.survivors.specs.declared.tree.Cell.{Cell}
 use Rattle.survivors.proofs.Shares.{under-one-bound, under-self-bound}
-use Rattle.survivors.proofs.Arrivals.{Come, come-used, come-uses}
-use Rattle.survivors.proofs.Attaches.{slot, slot-free, put, put-here, root-come, root, p-refs, p-heirs, hung, hung-here, hung-come, below}
+use Rattle.survivors.proofs.Arrivals.{join-used, join-uses}
+use Rattle.survivors.proofs.Attaches.{put-here, root-joined, root, p-refs, p-heirs, linked-here, linked-joined, below}
 use Rattle.survivors.proofs.tree.Tree.attach.Needs as need
 
 pub add-self : need.add-self
@@ -48,14 +46,14 @@ pub returns-then-self : need.returns-then-self
 returns-then-self c =
     let s = c .args .self .now in
     let r = c .pre .1 in
-    let g = root-come (r .holds) (r .room) (c .args .parent) (c .args .mode) (r .small) (r .fresh) (c .if-self .taken) in
+    let g = root-joined (r .holds) (r .room) (c .args .parent) (c .args .mode) (r .small) (r .fresh) (c .if-self .taken) in
     let e = put-here (r .holds) (r .room) (c .args .parent) (c .args .mode) (r .small) (r .fresh) in
     record {
       holds = λ h t. root t (r .room) (c .args .parent) (c .args .mode) (r .small) (r .fresh) (c .if-self .taken);
       below = g .here;
       was = g .was;
-      used = come-used _ _ _ g;
-      uses = come-uses _ _ _ g;
+      used = join-used _ _ _ g;
+      uses = join-uses _ _ _ g;
       layer = g .layer;
       parent = g .parent;
       mode = g .mode;
@@ -74,14 +72,14 @@ returns-else-self c =
     let s = c .args .self .now in
     let r = c .pre .1 in
     let o = older s (c .pre .0) (c .args .mode) (c .args .parent) r (c .if-self .left) in
-    let g = hung-come (r .holds) (r .room) (c .args .parent) (c .args .mode) (r .small) (r .fresh) (c .if-self .left) (r .below o) (r .used o) (r .layer o) in
-    let e = hung-here (r .holds) (r .room) (c .args .parent) (c .args .mode) (r .small) (r .fresh) (c .if-self .left) (r .below o) (r .used o) (r .layer o) in
+    let g = linked-joined (r .holds) (r .room) (c .args .parent) (c .args .mode) (r .small) (r .fresh) (c .if-self .left) (r .below o) (r .used o) (r .layer o) in
+    let e = linked-here (r .holds) (r .room) (c .args .parent) (c .args .mode) (r .small) (r .fresh) (c .if-self .left) (r .below o) (r .used o) (r .layer o) in
     record {
       holds = λ h t. below t (r .room) (c .args .parent) (c .args .mode) (r .small) (r .fresh) (c .if-self .left) (r .below o) (r .used o) (r .layer o);
       below = g .here;
       was = g .was;
-      used = come-used _ _ _ g;
-      uses = come-uses _ _ _ g;
+      used = join-used _ _ _ g;
+      uses = join-uses _ _ _ g;
       layer = g .layer;
       parent = g .parent;
       mode = g .mode;

@@ -1,5 +1,4 @@
 use mathlib.Core.Path.{refl}
-use Prim.Native.Nat.{ℕ, _+_}
 use native.Mathlib.Omega.{arith}
 use Rattle.survivors.specs.Trees.{Holds, held, both, tipsOf}
 use Rattle.survivors.specs.declared.tree.Tree.{Tree}

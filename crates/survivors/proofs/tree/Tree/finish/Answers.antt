@@ -1,14 +1,13 @@
 use mathlib.Core.Path.{_≡_, sym}
-use mathlib.Core.List.{List, map}
-use Prim.Native.Nat.{ℕ, _<_, _≤_}
+use Prim.Native.Nat.{ℕ, _<_}
 use native.Mathlib.Omega.{arith}
 use lib.ListN.{getD, length}
-use Rattle.std.specs.declared.option.Option.the-variants.{Some, None}
+use Rattle.std.specs.declared.option.Option.the-variants.{None}
 use Rattle.std.proofs.shelf.Lists.{getD-map, length-map}
 use Rattle.survivors.specs.Trees.{tipOf, Valid}
 use Rattle.survivors.specs.declared.tree.Tree.{Tree}
 use Rattle.survivors.proofs.Tips.{real-set}
-use Rattle.survivors.proofs.Finishes.{shed-by, shed-tips, alone-rest, finished}
+use Rattle.survivors.proofs.Finishes.{shed-by, shed-tips, alone-valid, finished}
 use Rattle.survivors.proofs.tree.Tree.finish.Needs as need
 
 long : (s : Tree) → Valid s → (best : ℕ) → best < s .modes → best < length (s .tips)
@@ -29,7 +28,7 @@ pub settle-requires : need.settle-requires
 settle-requires c κs =
     let s = c .args .self .now in
     let p = c .pre in
-    alone-rest s (p .valid) (c .args .best) (p .mode) (p .tip) (c .shed .last .self) (c .shed .ensures) (getD (s .tips) (c .args .best) None) (sym (getD-map tipOf (s .tips) (c .args .best) None 0 (long s (p .valid) (c .args .best) (p .mode)))) (p .valid .real (c .args .best))
+    alone-valid s (p .valid) (c .args .best) (p .mode) (p .tip) (c .shed .last .self) (c .shed .ensures) (getD (s .tips) (c .args .best) None) (sym (getD-map tipOf (s .tips) (c .args .best) None 0 (long s (p .valid) (c .args .best) (p .mode)))) (p .valid .real (c .args .best))
 
 pub returns : need.returns
 returns c =

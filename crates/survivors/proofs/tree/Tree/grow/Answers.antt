@@ -1,9 +1,9 @@
-use mathlib.Core.Path.{_≡_, sym, subst, _∙_}
+use mathlib.Core.Path.{sym, subst}
 use mathlib.Core.List.{List, map}
-use Prim.Native.Nat.{ℕ, _+_, _-_, _<_, _≤_}
+use Prim.Native.Nat.{ℕ}
 use native.Mathlib.Omega.{arith}
-use lib.ListN.{set, length}
-use Rattle.survivors.specs.Trees.{Real, both, held, chosen, fromOf, tipOf, tipsOf, Sprout, Tips}
+use lib.ListN.{length}
+use Rattle.survivors.specs.Trees.{Real, held, chosen, fromOf, tipOf, tipsOf, Tips}
 use Rattle.std.proofs.shelf.Lists.{length-map}
 use Rattle.survivors.proofs.Decides.{blank-tips, no-tips}
 use Rattle.survivors.specs.declared.tree.Tree.{Tree}
@@ -18,9 +18,9 @@ shed-requires c κs =
     let g = c .sprout .ensures .grows in
     record {
       some = (held (map tipOf (c .sprout .last .tips)), holding (c .args .self .now) (chosen (c .args .preds .now)) (length (chosen (c .args .preds .now))) (c .sprout .last .self) (map tipOf (c .sprout .last .tips)) g);
-      tips = subst (λ (n : ℕ). Tips (tipsOf (c .sprout .last .self)) n) (sym (g .modes)) (subst (λ (z : List ℕ). Tips z (c .args .self .now .modes)) (sym (g .oldTips)) (c .pre .next .rest .tips));
-      real = subst Real (sym (c .sprout .ensures .raw)) (c .pre .next .rest .real);
-      few = omega (arith, g .modes, c .pre .next .rest .few);
+      tips = subst (λ (n : ℕ). Tips (tipsOf (c .sprout .last .self)) n) (sym (g .modes)) (subst (λ (z : List ℕ). Tips z (c .args .self .now .modes)) (sym (g .oldTips)) (c .pre .next .valid .tips));
+      real = subst Real (sym (c .sprout .ensures .raw)) (c .pre .next .valid .real);
+      few = omega (arith, g .modes, c .pre .next .valid .few);
     }
 
 pub returns : need.returns

@@ -1,14 +1,11 @@
-use mathlib.Core.Path.{_≡_, refl, sym, _∙_}
-use mathlib.Core.Logic.{_≢_}
-use mathlib.Core.List.{List}
-use Prim.Native.Nat.{ℕ, _+_, _-_, _<_, _≤_}
+use Prim.Native.Nat.{ℕ}
 use native.Mathlib.Omega.{arith}
-use Rattle.survivors.specs.Cells.{at, plus, Kept, Links}
-use Rattle.survivors.specs.Trees.{Holds, Released}
+use Rattle.survivors.specs.Cells.{at, plus}
+use Rattle.survivors.specs.Trees.{Holds}
 use Rattle.survivors.specs.declared.tree.Tree.{Tree}
 use Rattle.survivors.proofs.Shares.{kept-kept}
 use Rattle.survivors.proofs.Freed.{gone-kept}
-use Rattle.survivors.proofs.Releases.{some, room-left, stay-kept, stay, low-gone, low-heirs, width-left, first-left, end, p-below, heirs-left, moved-gone, on, falls}
+use Rattle.survivors.proofs.Releases.{room-left, stay-kept, stay, low-gone, low-heirs, width-left, first-left, end, p-below, heirs-left, moved-gone, on, falls}
 use Rattle.survivors.proofs.tree.Tree.release.Needs as need
 
 pub returns-then-old-gt1 : need.returns-then-old-gt1

@@ -1,7 +1,7 @@
 use mathlib.Core.Path.{_≡_}
-use Prim.Native.Nat.{ℕ, _-_, _<_, _≤_}
+use Prim.Native.Nat.{ℕ, _<_, _≤_}
 use Rattle.survivors.specs.Cells.{at, plus, Kept}
-use Rattle.survivors.specs.Trees.{Holds, Released}
+use Rattle.survivors.specs.Trees.{Holds}
 use Rattle.survivors.proofs.tree.Tree.release.Given as given
 
 abbrev pub Inv-up : given.InvT-up

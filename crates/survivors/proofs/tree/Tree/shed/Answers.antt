@@ -1,11 +1,11 @@
 use mathlib.Core.Path.{_≡_, sym, subst}
-use Prim.Native.Nat.{ℕ, _+_, _-_, _<_, _≤_}
+use Prim.Native.Nat.{ℕ, _+_, _<_, _≤_}
 use native.Mathlib.Omega.{arith}
-use Rattle.survivors.specs.Trees.{both, Holds, Released, Shed, tipsOf}
+use Rattle.survivors.specs.Trees.{both, Holds, Released, tipsOf}
 use Rattle.survivors.specs.Cells.{plus}
 use Rattle.survivors.specs.declared.tree.Tree.{Tree}
 use lib.ListN.{set, getD, length}
-use Rattle.survivors.proofs.Tips.{Shedding, shed-clear, shed-on, shed-skip, shed-all, cleared, read-some, read-none, not-some}
+use Rattle.survivors.proofs.Tips.{Shedding, shed-clear, shed-on, shed-skip, shed-all, cleared, read-some, read-none}
 use Rattle.survivors.proofs.tree.Tree.shed.Needs as need
 use Rattle.survivors.proofs.tree.Tree.shed.Needs.{in-Some, in-rest}
 

@@ -1,6 +1,6 @@
 use mathlib.Core.Path.{_≡_, refl, sym, subst, ap, _∙_}
 use mathlib.Core.List.{List, map}
-use Prim.Native.Nat.{ℕ, _+_, _-_, _<_, _≤_}
+use Prim.Native.Nat.{ℕ, _+_, _<_}
 use native.Mathlib.Omega.{arith}
 use lib.ListN.{set, length, getD}
 use Rattle.std.specs.declared.option.Option.{Option}
@@ -25,7 +25,7 @@ loop-u-holds c = (refl, c .pre .real, sprout-none (c .args .self .now) (chosen (
 pub tip-p-requires : need.tip-p-requires
 tip-p-requires c κs = record {
   mode = c .pre .modes (c .loop-u .u) (c .in-Some .from) (c .loop-u-test .taken) (c .in-Some .is);
-  tips = ap length (c .loop-u .inv .0) ∙ sym (length-map (c .args .self .now .tips) tipOf) ∙ c .pre .next .rest .tips .many;
+  tips = ap length (c .loop-u .inv .0) ∙ sym (length-map (c .args .self .now .tips) tipOf) ∙ c .pre .next .valid .tips .many;
 }
 
 pub cast-u : need.cast-u

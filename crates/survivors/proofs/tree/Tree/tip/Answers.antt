@@ -1,8 +1,5 @@
-use mathlib.Core.Path.{_≡_, sym, ap, _∙_}
-use Prim.Native.Nat.{ℕ, _<_}
+use mathlib.Core.Path.{sym}
 use native.Mathlib.Omega.{arith}
-use lib.ListN.{length}
-use mathlib.Core.List.{List, map}
 use Rattle.std.proofs.shelf.Lists.{length-map}
 use Rattle.survivors.specs.Trees.{tipOf}
 use Rattle.survivors.proofs.Tips.{read-some, read-none}
