@@ -155,7 +155,7 @@ module _ (o : Tree) (ring : List ℕ) (s : Tree) (ring′ : List ℕ) (g : Settl
   base-on = omega (arith, g .base, length-push (g .out) m)
 
   ring-on : Written ring (o .base) (g .out ++ (m ∷ [])) (set ring′ (s .base % 4096) m)
-  ring-on = rw (g .base) (written-push ring (o .base) (g .out) ring′ m long (g .ring))
+  ring-on = rw (g .base) (written-push ring (o .base) (g .out) ring′ m long (g .written))
 
   pub settle-on : (more : s .base + 1 ≢ s .top) → Settling o ring (next s (g .valid) single more) (set ring′ (s .base % 4096) m)
   settle-on more = record {
@@ -163,7 +163,7 @@ module _ (o : Tree) (ring : List ℕ) (s : Tree) (ring′ : List ℕ) (g : Settl
     out = g .out ++ (m ∷ []);
     base = base-on;
     top = g .top;
-    ring = ring-on;
+    written = ring-on;
     paths = paths-on;
     tips = λ _. g .tips (deep s (g .valid) single);
   }
@@ -176,7 +176,7 @@ module _ (o : Tree) (ring : List ℕ) (s : Tree) (ring′ : List ℕ) (g : Settl
         out = g .out ++ (m ∷ []);
         base = base-on;
         top = g .top;
-        ring = ring-on;
+        written = ring-on;
         paths = λ u l k. paths-on u l k ∙ ap (λ (n : ℕ). (g .out ++ (m ∷ [])) ++ path (cs′ s (g .valid) single) n (getD (tipsOf s) u 0)) z
             ∙ sym (ap (λ (n : ℕ). (g .out ++ (m ∷ [])) ++ path (cs′ s (g .valid) single) n (getD (replicate 32 1024) u 0)) z);
         tips = λ q. absurd (omega arith);

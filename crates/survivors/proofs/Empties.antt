@@ -58,7 +58,6 @@ empty s n z st re t few b p w i =
       };
       base = b;
       top = p;
-      tips = t;
     }
 
 -- the stack that holds every cell

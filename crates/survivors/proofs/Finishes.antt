@@ -132,5 +132,5 @@ module _ (s : Tree) (r : Valid s) (best : ℕ) (l : best < s .modes) (tipped′ 
           valid = g .valid;
           base = done ∙ g .top ∙ d .top;
           top = g .top ∙ d .top;
-          ring = subst (λ (b : ℕ). Written ring b (pathOf s best) ring′) (d .base) (subst (λ (z : List ℕ). Written ring (t .base) z ring′) (out-is ring w ring′ g flat) (g .ring));
+          written = subst (λ (b : ℕ). Written ring b (pathOf s best) ring′) (d .base) (subst (λ (z : List ℕ). Written ring (t .base) z ring′) (out-is ring w ring′ g flat) (g .written));
         }

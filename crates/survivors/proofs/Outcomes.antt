@@ -118,7 +118,7 @@ module _ (s : Survivors) (ring : List ℕ) (t : Survivors) (ring′ : List ℕ) 
     };
     none-taken = g .top;
     more-decided = g .base;
-    written = g .ring;
+    written = g .written;
     paths = on;
     tips = λ u h d. rw (g .tips d) h;
     no-tip = λ u h. ⊎-elim
@@ -131,7 +131,7 @@ pub finished-of : (s : Survivors) (best : ℕ) (ring : List ℕ) (t : Survivors)
 finished-of s best ring t ring′ g = record {
   none-taken = g .top;
   all-decided = g .base;
-  written = g .ring;
+  written = g .written;
   no-tip = no-tips t (g .valid) (g .base ∙ sym (g .top));
 }
 

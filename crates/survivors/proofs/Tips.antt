@@ -98,7 +98,6 @@ pub record Shedding (o s : Tree) (k i : ℕ) : Type 0 where
   pub kept : Kept (o .cells) (s .cells)
   pub base : s .base ≡ o .base
   pub top : s .top ≡ o .top
-  pub room : o .room ≤ s .room
   pub modes : s .modes ≡ o .modes
   pub tips : Tips (tipsOf s) k
   pub done : (u : ℕ) → u < 32 → u < i → getD (tipsOf s) u 0 ≡ 1024
@@ -145,7 +144,6 @@ shed-on o s k i g l m t r =
       kept = kept-kept (o .cells) (s .cells) (t .cells) (g .kept) (r .kept);
       base = r .base ∙ g .base;
       top = r .top ∙ g .top;
-      room = omega (arith, r .room, g .room);
       modes = r .modes ∙ g .modes;
       tips = subst (λ (z : List ℕ). Tips z k) (sym e) (tips-set (tipsOf s) k i 1024 (g .tips) l m (omega arith));
       real = subst Real (sym (r .tips)) (real-set (s .tips) i None (g .real) (λ c q. absurd (let z : _≡_ {A = ℕ} 0 1 = cc in omega arith)));
@@ -160,7 +158,6 @@ shed-skip o s k i g l m none = record {
   kept = g .kept;
   base = g .base;
   top = g .top;
-  room = g .room;
   modes = g .modes;
   tips = g .tips;
   real = g .real;
@@ -176,7 +173,6 @@ shed-all o s k g m = record {
   kept = g .kept;
   base = g .base;
   top = g .top;
-  room = g .room;
   modes = g .modes;
   real = g .real;
   tips = record { many = g .tips .many; each = g .tips .each; beyond = λ u ul _. empty u ul };

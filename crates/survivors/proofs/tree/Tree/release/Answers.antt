@@ -18,8 +18,7 @@ returns-then-old-gt1 c =
       base = i .4;
       top = i .5;
       tips = i .6;
-      modes = i .8;
-      room = i .7;
+      modes = i .7;
     }
 
 pub index-self-self : need.index-self-self
@@ -50,8 +49,7 @@ returns-then-old-self c =
       base = i .4;
       top = i .5;
       tips = i .6;
-      modes = i .8;
-      room = omega (arith, i .7);
+      modes = i .7;
     }
 
 pub sub-self-in-up : need.sub-self-in-up
@@ -74,8 +72,7 @@ up-again c =
       i .4,
       i .5,
       i .6,
-      omega (arith, i .7),
-      i .8,
+      i .7,
     )
 
 pub up-less : need.up-less

@@ -11,7 +11,6 @@ Inv-up l = ((h : ℕ → ℕ) × Holds (l .self) (plus h (l .c))) × (l .c < 102
     × (l .self .base ≡ l .entry .self .base)
     × (l .self .top ≡ l .entry .self .top)
     × (l .self .tips ≡ l .entry .self .tips)
-    × (l .entry .self .room ≤ l .self .room)
     × (l .self .modes ≡ l .entry .self .modes)
 
 abbrev pub μ-up : given.MeasureT-up
