@@ -13,7 +13,7 @@ use Rattle.std.specs.declared.option.Option.the-variants.{None}
 use Rattle.survivors.specs.Cells.{at, share, under, one, place, path, Kept}
 use Rattle.survivors.specs.Ring.{Written}
 use Rattle.survivors.proofs.Rings.{written-push}
-use Rattle.survivors.specs.Trees.{tipOf, tipsOf, Real, Holds, Valid, Settling, held, pathOf, Tips}
+use Rattle.survivors.specs.Trees.{tipOf, tipsOf, Real, Holds, Valid, Settling, held, pathOf, Tips, tipAt}
 use Rattle.survivors.specs.declared.tree.Cell.{Cell}
 use Rattle.survivors.specs.declared.tree.Tree.{Tree}
 use Rattle.survivors.proofs.Tallies.{tally-ge, tally-none}
@@ -64,16 +64,16 @@ module _ (s : Tree) (r : Valid s) (single : s .width ≡ 1) where
   kept = root-kept t single
 
   -- a path, without its first mode
-  shorter : (u : ℕ) → u < 32 → getD (tipsOf s) u 0 < 1024 → pathOf s u ≡ at (s .cells) (s .first) .mode ∷ path cs′ (s .top - (s .base + 1)) (getD (tipsOf s) u 0)
+  shorter : (u : ℕ) → u < 32 → tipAt s u < 1024 → pathOf s u ≡ at (s .cells) (s .first) .mode ∷ path cs′ (s .top - (s .base + 1)) (tipAt s u)
   shorter u l m =
       let n = s .top - (s .base + 1) in
       let e : s .top - s .base ≡ suc n = omega (arith, deep) in
-      let k : 0 < held (tipsOf s) (getD (tipsOf s) u 0) =
-      let f : ℕ → ℕ = λ v. cond (eqb (getD (tipsOf s) v 0) (getD (tipsOf s) u 0)) 1 0 in
-      let o : f u ≡ 1 = rw (eq-eqb (getD (tipsOf s) u 0) (getD (tipsOf s) u 0) refl) refl in
+      let k : 0 < held (tipsOf s) (tipAt s u) =
+      let f : ℕ → ℕ = λ v. cond (eqb (tipAt s v) (tipAt s u)) 1 0 in
+      let o : f u ≡ 1 = rw (eq-eqb (tipAt s u) (tipAt s u) refl) refl in
       omega (arith, tally-ge f u 32 l) in
-      ap (λ (j : ℕ). path (s .cells) j (getD (tipsOf s) u 0)) e
-      ∙ path-root t single n (getD (tipsOf s) u 0) m (omega (arith, t .count (getD (tipsOf s) u 0) m)) (omega (arith, r .newest u l m, deep))
+      ap (λ (j : ℕ). path (s .cells) j (tipAt s u)) e
+      ∙ path-root t single n (tipAt s u) m (omega (arith, t .count (tipAt s u) m)) (omega (arith, r .newest u l m, deep))
 
   -- there are younger layers
   module _ (more : s .base + 1 ≢ s .top) where
@@ -82,8 +82,8 @@ module _ (s : Tree) (r : Valid s) (single : s .width ≡ 1) where
 
     unheld : held (tipsOf s) (s .first) ≡ 0
     unheld = held-none (tipsOf s) (s .first) (λ u l q.
-        let a : getD (tipsOf s) u 0 < 1024 = rw q first-below in
-        let b : at (s .cells) (getD (tipsOf s) u 0) .layer + 1 ≡ s .top = r .newest u l a in
+        let a : tipAt s u < 1024 = rw q first-below in
+        let b : at (s .cells) (tipAt s u) .layer + 1 ≡ s .top = r .newest u l a in
         let c : at (s .cells) (s .first) .layer + 1 ≡ s .top = rw q at b in
         more (omega (arith, c, top-root .layer)))
 
@@ -97,8 +97,8 @@ module _ (s : Tree) (r : Valid s) (single : s .width ≡ 1) where
           holds = record { size = d .size; shape = d .shape; stack = d .stack; count = d .count; heir = d .heir; wide = sym w ∙ d .wide; oldest = sym f ∙ d .oldest };
           tips = r .tips;
           few = r .few;
-          newest = λ u l m. rw (kept .same .layer (getD (tipsOf s) u 0) m) (r .newest u l m);
-          ends = λ u l m. kept .same .mode (getD (tipsOf s) u 0) m ∙ r .ends u l m;
+          newest = λ u l m. rw (kept .same .layer (tipAt s u) m) (r .newest u l m);
+          ends = λ u l m. kept .same .mode (tipAt s u) m ∙ r .ends u l m;
           old = λ x l u. rw (kept .same .layer x l) (r .old x l (kept .used x l u));
           none = λ e. absurd (more e);
           any = λ _. r .any deep;
@@ -144,12 +144,12 @@ module _ (o : Tree) (ring : List ℕ) (s : Tree) (ring′ : List ℕ) (g : Settl
   abbrev m : ℕ
   m = at (s .cells) (s .first) .mode
 
-  paths-on : (u : ℕ) → u < 32 → getD (tipsOf o) u 0 < 1024 → pathOf o u ≡ (g .out ++ (m ∷ [])) ++ path (cs′ s (g .valid) single) (s .top - (s .base + 1)) (getD (tipsOf s) u 0)
+  paths-on : (u : ℕ) → u < 32 → tipAt o u < 1024 → pathOf o u ≡ (g .out ++ (m ∷ [])) ++ path (cs′ s (g .valid) single) (s .top - (s .base + 1)) (tipAt s u)
   paths-on u l k =
       let e : tipsOf s ≡ tipsOf o = ap (map tipOf) (g .tips (deep s (g .valid) single)) in
-      let k′ : getD (tipsOf s) u 0 < 1024 = rw e k in
+      let k′ : tipAt s u < 1024 = rw e k in
       let q = shorter s (g .valid) single u l k′ in
-      g .paths u l k ∙ ap (λ (z : List ℕ). g .out ++ z) q ∙ sym (append-assoc (g .out) (m ∷ []) (path (cs′ s (g .valid) single) (s .top - (s .base + 1)) (getD (tipsOf s) u 0)))
+      g .paths u l k ∙ ap (λ (z : List ℕ). g .out ++ z) q ∙ sym (append-assoc (g .out) (m ∷ []) (path (cs′ s (g .valid) single) (s .top - (s .base + 1)) (tipAt s u)))
 
   base-on : s .base + 1 ≡ o .base + length (g .out ++ (m ∷ []))
   base-on = omega (arith, g .base, length-push (g .out) m)
@@ -177,7 +177,7 @@ module _ (o : Tree) (ring : List ℕ) (s : Tree) (ring′ : List ℕ) (g : Settl
         base = base-on;
         top = g .top;
         written = ring-on;
-        paths = λ u l k. paths-on u l k ∙ ap (λ (n : ℕ). (g .out ++ (m ∷ [])) ++ path (cs′ s (g .valid) single) n (getD (tipsOf s) u 0)) z
+        paths = λ u l k. paths-on u l k ∙ ap (λ (n : ℕ). (g .out ++ (m ∷ [])) ++ path (cs′ s (g .valid) single) n (tipAt s u)) z
             ∙ sym (ap (λ (n : ℕ). (g .out ++ (m ∷ [])) ++ path (cs′ s (g .valid) single) n (getD (replicate 32 1024) u 0)) z);
         tips = λ q. absurd (omega arith);
       }

@@ -11,7 +11,7 @@ use Rattle.std.specs.declared.option.Option.{Option}
 use Rattle.std.specs.declared.option.Option.the-variants.{Some, None}
 use Rattle.survivors.specs.Cells.{at, path, plus}
 use Rattle.survivors.specs.Ring.{Written}
-use Rattle.survivors.specs.Trees.{tipOf, tipsOf, Holds, held, both, Valid, Tips, Shed, Settling, Apart, Ended, pathOf}
+use Rattle.survivors.specs.Trees.{tipOf, tipsOf, Holds, held, both, Valid, Tips, Shed, Settling, Apart, Ended, pathOf, tipAt}
 use Rattle.survivors.specs.declared.tree.Tree.{Tree}
 use Rattle.survivors.proofs.Tips.{tree-held, held-set, real-set, off, plus-nil, tips-set}
 use Rattle.survivors.proofs.Decides.{held-none}
@@ -24,7 +24,7 @@ nil x = 0
 abbrev pub tipped : Tree → List (Option ℕ) → Tree
 tipped s tips = record { cells = s .cells; free = s .free; tips = tips; room = s .room; base = s .base; top = s .top; width = s .width; first = s .first; modes = s .modes }
 
-module _ (s : Tree) (r : Valid s) (best : ℕ) (l : best < s .modes) (tipped′ : getD (tipsOf s) best 0 < 1024) where
+module _ (s : Tree) (r : Valid s) (best : ℕ) (l : best < s .modes) (tipped′ : tipAt s best < 1024) where
   bl : best < 32
   bl = omega (arith, r .few)
 
@@ -37,30 +37,30 @@ module _ (s : Tree) (r : Valid s) (best : ℕ) (l : best < s .modes) (tipped′ 
   cut : map tipOf (set (s .tips) best None) ≡ set (tipsOf s) best 1024
   cut = map-set tipOf (s .tips) best None
 
-  pub shed-by : Holds s (both (map tipOf (set (s .tips) best None)) (plus nil (getD (tipsOf s) best 0)))
+  pub shed-by : Holds s (both (map tipOf (set (s .tips) best None)) (plus nil (tipAt s best)))
   shed-by = tree-held eq (r .holds)
     where
-      eq : (x : ℕ) → x < 1024 → held (tipsOf s) x ≡ both (map tipOf (set (s .tips) best None)) (plus nil (getD (tipsOf s) best 0)) x
-      eq x xl = omega (arith, ap (λ (z : List ℕ). held z x) cut, held-set (tipsOf s) best 1024 x (r .tips .many) bl, off 1024 x (λ q. omega arith), plus-nil (getD (tipsOf s) best 0) x)
+      eq : (x : ℕ) → x < 1024 → held (tipsOf s) x ≡ both (map tipOf (set (s .tips) best None)) (plus nil (tipAt s best)) x
+      eq x xl = omega (arith, ap (λ (z : List ℕ). held z x) cut, held-set (tipsOf s) best 1024 x (r .tips .many) bl, off 1024 x (λ q. omega arith), plus-nil (tipAt s best) x)
 
   pub shed-tips : Tips (map tipOf (set (s .tips) best None)) (s .modes)
   shed-tips = subst (λ (z : List ℕ). Tips z (s .modes)) (sym cut) (tips-set (tipsOf s) (s .modes) best 1024 (r .tips) l (r .few) (omega arith))
 
-  module _ (t : Tree) (d : Shed (tipped s (set (s .tips) best None)) t) (tip : Option ℕ) (te : tipOf tip ≡ getD (tipsOf s) best 0) (tr : (c : ℕ) → tip ≡ Some c → c < 1024) where
+  module _ (t : Tree) (d : Shed (tipped s (set (s .tips) best None)) t) (tip : Option ℕ) (te : tipOf tip ≡ tipAt s best) (tr : (c : ℕ) → tip ≡ Some c → c < 1024) where
     abbrev raw : List (Option ℕ)
     raw = set (t .tips) best tip
 
     abbrev alone : List ℕ
     alone = map tipOf raw
 
-    alone-is : map tipOf raw ≡ set (tipsOf t) best (getD (tipsOf s) best 0)
+    alone-is : map tipOf raw ≡ set (tipsOf t) best (tipAt s best)
     alone-is = map-set tipOf (t .tips) best tip ∙ ap (λ (v : ℕ). set (tipsOf t) best v) te
 
-    here : getD alone best 0 ≡ getD (tipsOf s) best 0
-    here = ap (λ (z : List ℕ). getD z best 0) alone-is ∙ getD-set-same (tipsOf t) best (getD (tipsOf s) best 0) 0 (omega (arith, d .tips .many, bl))
+    here : getD alone best 0 ≡ tipAt s best
+    here = ap (λ (z : List ℕ). getD z best 0) alone-is ∙ getD-set-same (tipsOf t) best (tipAt s best) 0 (omega (arith, d .tips .many, bl))
 
     others : (u : ℕ) → u < 32 → u ≢ best → getD alone u 0 ≡ 1024
-    others u ul ne = ap (λ (z : List ℕ). getD z u 0) alone-is ∙ getD-set-other (tipsOf t) best u (getD (tipsOf s) best 0) 0 ne ∙ d .tips .beyond u ul (omega arith)
+    others u ul ne = ap (λ (z : List ℕ). getD z u 0) alone-is ∙ getD-set-other (tipsOf t) best u (tipAt s best) 0 ne ∙ d .tips .beyond u ul (omega arith)
 
     -- a tip is best's
     is-best : (u : ℕ) → u < 32 → getD alone u 0 < 1024 → u ≡ best
@@ -68,7 +68,7 @@ module _ (s : Tree) (r : Valid s) (best : ℕ) (l : best < s .modes) (tipped′ 
 
     pub alone-valid : Valid (tipped t raw)
     alone-valid = record {
-      holds = tree-held eq (d .holds (plus nil (getD (tipsOf s) best 0)) (shed-by));
+      holds = tree-held eq (d .holds (plus nil (tipAt s best)) (shed-by));
       tips = record {
         many = ap length alone-is ∙ length-set (tipsOf t) best _ ∙ d .tips .many;
         each = λ u ul. ⊎-elim
@@ -81,12 +81,12 @@ module _ (s : Tree) (r : Valid s) (best : ℕ) (l : best < s .modes) (tipped′ 
       real = real-set (t .tips) best tip (d .real) tr;
       newest = λ u ul m.
           let e = is-best u ul m in
-          let m′ : getD (tipsOf s) best 0 < 1024 = rw (e, here) at m in
-          rw (e, here, d .kept .same .layer (getD (tipsOf s) best 0) m′, d .top) (r .newest best bl m′);
+          let m′ : tipAt s best < 1024 = rw (e, here) at m in
+          rw (e, here, d .kept .same .layer (tipAt s best) m′, d .top) (r .newest best bl m′);
       ends = λ u ul m.
           let e = is-best u ul m in
-          let m′ : getD (tipsOf s) best 0 < 1024 = rw (e, here) at m in
-          rw (e, here) (d .kept .same .mode (getD (tipsOf s) best 0) m′ ∙ r .ends best bl m′);
+          let m′ : tipAt s best < 1024 = rw (e, here) at m in
+          rw (e, here) (d .kept .same .mode (tipAt s best) m′ ∙ r .ends best bl m′);
       old = λ x xl u. rw (d .kept .same .layer x xl, d .top) (r .old x xl (d .kept .used x xl u));
       none = λ e u ul. ⊎-elim
           (λ (q : u ≡ best). rw (q, here) (r .none (sym (d .base) ∙ e ∙ d .top) best bl))
@@ -95,10 +95,10 @@ module _ (s : Tree) (r : Valid s) (best : ℕ) (l : best < s .modes) (tipped′ 
       any = λ q no-tip. omega (arith, no-tip best bl, here);
     }
       where
-        eq : (x : ℕ) → x < 1024 → plus nil (getD (tipsOf s) best 0) x ≡ held alone x
+        eq : (x : ℕ) → x < 1024 → plus nil (tipAt s best) x ≡ held alone x
         eq x xl =
-            let e : getD (tipsOf t) best 0 ≡ 1024 = d .tips .beyond best bl (omega arith) in
-            omega (arith, ap (λ (z : List ℕ). held z x) alone-is, held-set (tipsOf t) best (getD (tipsOf s) best 0) x (d .tips .many) bl, off (getD (tipsOf t) best 0) x (λ q. omega arith), held-none (tipsOf t) x (λ u ul q. omega (arith, d .tips .beyond u ul (omega arith))), plus-nil (getD (tipsOf s) best 0) x)
+            let e : tipAt t best ≡ 1024 = d .tips .beyond best bl (omega arith) in
+            omega (arith, ap (λ (z : List ℕ). held z x) alone-is, held-set (tipsOf t) best (tipAt s best) x (d .tips .many) bl, off (tipAt t best) x (λ q. omega arith), held-none (tipsOf t) x (λ u ul q. omega (arith, d .tips .beyond u ul (omega arith))), plus-nil (tipAt s best) x)
 
     pub alone-path : pathOf (tipped t raw) best ≡ pathOf s best
     alone-path =
@@ -108,12 +108,12 @@ module _ (s : Tree) (r : Valid s) (best : ℕ) (l : best < s .modes) (tipped′ 
         rw (e, e′, here) (path-frame s (held (tipsOf s)) (r .holds) (t .cells)
         (λ y yl w. d .kept .same .parent y yl)
         (λ y yl w. d .kept .same .mode y yl)
-        n (getD (tipsOf s) best 0) tipped′ (tip-used s r best bl tipped′) (omega (arith, r .newest best bl tipped′, deep)))
+        n (tipAt s best) tipped′ (tip-used s r best bl tipped′) (omega (arith, r .newest best bl tipped′, deep)))
 
     out-is : (ring : List ℕ) (w : Tree) (ring′ : List ℕ) (g : Settling (tipped t raw) ring w ring′) → w .top - w .base ≡ 0 → g .out ≡ pathOf s best
     out-is ring w ring′ g flat =
         let a : pathOf (tipped t raw) best ≡ g .out ++ pathOf w best = g .paths best bl (rw here tipped′) in
-        let b : pathOf w best ≡ [] = ap (λ (n : ℕ). path (w .cells) n (getD (tipsOf w) best 0)) flat in
+        let b : pathOf w best ≡ [] = ap (λ (n : ℕ). path (w .cells) n (tipAt w best)) flat in
         sym (append-nil (g .out)) ∙ sym (ap (λ (y : List ℕ). g .out ++ y) b) ∙ sym a ∙ alone-path
 
     pub finished : (ring : List ℕ) (w : Tree) (ring′ : List ℕ) → Settling (tipped t raw) ring w ring′ → (w .base < w .top → Apart w) → Ended s best ring w ring′

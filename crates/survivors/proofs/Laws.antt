@@ -13,7 +13,7 @@ use Rattle.std.proofs.shelf.Tests.{cases-lt}
 use Rattle.std.proofs.shelf.Lists.{length-map, getD-map, getD-past}
 use Rattle.viterbi.specs.Lists.{In, Counted, EndsIn}
 use Rattle.survivors.specs.Cells.{at, path}
-use Rattle.survivors.specs.Trees.{Valid, tipOf, tipsOf}
+use Rattle.survivors.specs.Trees.{Valid, tipOf, tipsOf, tipAt}
 use Rattle.survivors.specs.Survivors.{taken, decided, HasTip, pathTo, OnPath}
 use Rattle.survivors.specs.declared.tree.Tree.{Tree}
 use Rattle.survivors.specs.declared.Survivors.{Survivors}
@@ -39,7 +39,7 @@ module _ (t : Tree) (r : Valid t) (u : ℕ) where
   long : length (t .tips) ≡ 32
   long = sym (length-map (t .tips) tipOf) ∙ r .tips .many
 
-  read : u < 32 → getD (tipsOf t) u 0 ≡ tipOf (getD (t .tips) u None)
+  read : u < 32 → tipAt t u ≡ tipOf (getD (t .tips) u None)
   read l = getD-map tipOf (t .tips) u None 0 (omega (arith, long))
 
   pub tip-mode : isSome (getD (t .tips) u None) ≡ true → u < 32
@@ -48,7 +48,7 @@ module _ (t : Tree) (r : Valid t) (u : ℕ) where
       (λ (l : 32 ≤ u). absurd (let e = getD-past (t .tips) u None (omega (arith, long)) in let z : _≡_ {A = ℕ} 0 1 = cc in omega arith))
       (cases-lt u 32)
 
-  pub tip-cell : isSome (getD (t .tips) u None) ≡ true → getD (tipsOf t) u 0 < 1024
+  pub tip-cell : isSome (getD (t .tips) u None) ≡ true → tipAt t u < 1024
   tip-cell h = rw (read (tip-mode h)) (is-cell (getD (t .tips) u None) h (r .real u))
 
   -- and only modes that the last reading had
@@ -58,7 +58,7 @@ module _ (t : Tree) (r : Valid t) (u : ℕ) where
       (λ (l : t .modes ≤ u). absurd (omega (arith, tip-cell h, r .tips .beyond u (tip-mode h) l)))
       (cases-lt u (t .modes))
 
-  pub cell-tip : u < 32 → getD (tipsOf t) u 0 < 1024 → isSome (getD (t .tips) u None) ≡ true
+  pub cell-tip : u < 32 → tipAt t u < 1024 → isSome (getD (t .tips) u None) ≡ true
   cell-tip l m = is-some (getD (t .tips) u None) (omega (arith, read l))
 
 -- the decided readings were taken
@@ -85,13 +85,13 @@ some-tip s l = ⊎-elim
 
 -- a path has a mode for each undecided reading
 pub pathTo-length : (s : Survivors) (u : ℕ) → length (pathTo s u) ≡ taken s - decided s
-pathTo-length s u = path-length (s .tree .cells) (taken s - decided s) (getD (tipsOf (s .tree)) u 0)
+pathTo-length s u = path-length (s .tree .cells) (taken s - decided s) (tipAt (s .tree) u)
 
 -- the path to u ends in u
 pub pathTo-ends : (s : Survivors) (u : ℕ) → HasTip s u → EndsIn (pathTo s u) u
 pathTo-ends s u h =
     let cs = s .tree .cells in
-    let c = getD (tipsOf (s .tree)) u 0 in
+    let c = tipAt (s .tree) u in
     let n = taken s - (decided s + 1) in
     let e : taken s - decided s ≡ suc n = omega (arith, tip-undecided s u h) in
     let m : at cs c .mode ≡ u = valid s .ends u (tip-below s u h) (tip-cell (s .tree) (valid s) u h) in

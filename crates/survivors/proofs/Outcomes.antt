@@ -11,7 +11,7 @@ use Rattle.std.proofs.shelf.Tests.{cases-lt}
 use Rattle.std.proofs.shelf.Lists.{length-map, getD-map, getD-past, nil-from-length}
 use Rattle.viterbi.specs.Lists.{Begins, Shared}
 use Rattle.survivors.specs.Ring.{Written}
-use Rattle.survivors.specs.Trees.{Apart, Cleared, Ended, Layered, Next, Settling, Valid, chosen, fromOf, tipOf, tipsOf}
+use Rattle.survivors.specs.Trees.{Apart, Cleared, Ended, Layered, Next, Settling, Valid, chosen, fromOf, tipOf, tipsOf, tipAt}
 use Rattle.survivors.specs.Survivors.{Blank, Finished, Grown, HasTip, MayGrow, PathOf, Settled, decided, pathTo, taken}
 use Rattle.survivors.specs.declared.Survivors.{Survivors}
 use Rattle.survivors.proofs.Lists.{before-fork}
@@ -76,7 +76,7 @@ no-tips : (t : Survivors) → Valid (t .tree) → decided t ≡ taken t → (u :
 no-tips t r e u h = omega (arith, tip-cell (t .tree) r u h, r .none e u (tip-mode (t .tree) r u h))
 
 module _ (s : Survivors) (ring : List ℕ) (t : Survivors) (ring′ : List ℕ) (g : Settling (s .tree) ring (t .tree) ring′) (most : decided t < taken t → Apart (t .tree)) where
-  still : decided t < taken t → (u : ℕ) → getD (tipsOf (t .tree)) u 0 < 1024 → getD (tipsOf (s .tree)) u 0 < 1024
+  still : decided t < taken t → (u : ℕ) → tipAt (t .tree) u < 1024 → tipAt (s .tree) u < 1024
   still d u m = let e : tipsOf (t .tree) ≡ tipsOf (s .tree) = ap tipsOf′ (g .tips d) in rw e at m
     where
       tipsOf′ : List (Option ℕ) → List ℕ

@@ -10,7 +10,7 @@ use lib.Dec.{eqb}
 use Rattle.std.proofs.shelf.Tests.{cases-eq, cases-lt, ne-eqb}
 use Rattle.std.proofs.shelf.Lists.{length-push, getD-push, getD-append-left}
 use Rattle.survivors.specs.Cells.{at, path, owner, share, under, one}
-use Rattle.survivors.specs.Trees.{tipsOf, held, Valid, Apart, pathOf}
+use Rattle.survivors.specs.Trees.{tipsOf, held, Valid, Apart, pathOf, tipAt}
 use Rattle.survivors.specs.declared.tree.Cell.{Cell}
 use Rattle.survivors.specs.declared.tree.Tree.{Tree}
 use Rattle.survivors.proofs.Tallies.{tally-ge, tally-some, tally-pair}
@@ -92,16 +92,16 @@ module _ (s : Tree) (r : Valid s) where
       let st : at cs (at cs y .parent) .layer + 1 ≡ at cs y .layer = t .shape .step y (f .1) (v .0) (omega (arith, t .shape .low y (f .1) (v .0), young)) in
       (y, f .1, v .0, p, rw p at st)
 
-  tip : (x : ℕ) → 0 < held (tipsOf s) x → (u : ℕ) × (u < 32) × (getD (tipsOf s) u 0 ≡ x)
+  tip : (x : ℕ) → 0 < held (tipsOf s) x → (u : ℕ) × (u < 32) × (tipAt s u ≡ x)
   tip x k =
-      let f = tally-some (λ u. cond (eqb (getD (tipsOf s) u 0) x) 1 0) 32 k in
-      (f .0, f .1, ⊎-elim (λ (e : getD (tipsOf s) (f .0) 0 ≡ x). e) (λ (ne : getD (tipsOf s) (f .0) 0 ≡ x → ⊥). absurd (omega (arith, f .2, off (f .0) ne))) (cases-eq (getD (tipsOf s) (f .0) 0) x))
+      let f = tally-some (λ u. cond (eqb (tipAt s u) x) 1 0) 32 k in
+      (f .0, f .1, ⊎-elim (λ (e : tipAt s (f .0) ≡ x). e) (λ (ne : tipAt s (f .0) ≡ x → ⊥). absurd (omega (arith, f .2, off (f .0) ne))) (cases-eq (tipAt s (f .0)) x))
     where
-      off : (u : ℕ) → getD (tipsOf s) u 0 ≢ x → _≡_ {A = ℕ} (cond (eqb (getD (tipsOf s) u 0) x) 1 0) 0
-      off u ne = rw (ne-eqb (getD (tipsOf s) u 0) x ne) refl
+      off : (u : ℕ) → tipAt s u ≢ x → _≡_ {A = ℕ} (cond (eqb (tipAt s u) x) 1 0) 0
+      off u ne = rw (ne-eqb (tipAt s u) x ne) refl
 
   -- every cell in use is above a tip
-  on-path : (k x : ℕ) → x < 1024 → 0 < at cs x .refs → at cs x .layer + suc k ≡ s .top → (u : ℕ) × (u < 32) × (getD (tipsOf s) u 0 < 1024) × (above cs k (getD (tipsOf s) u 0) ≡ x)
+  on-path : (k x : ℕ) → x < 1024 → 0 < at cs x .refs → at cs x .layer + suc k ≡ s .top → (u : ℕ) × (u < 32) × (tipAt s u < 1024) × (above cs k (tipAt s u) ≡ x)
   on-path zero x l u e =
       ⊎-elim
       (λ (h : 0 < held (tipsOf s) x). let t = tip x h in (t .0, t .1, omega (arith, t .2), t .2))
@@ -113,7 +113,7 @@ module _ (s : Tree) (r : Valid s) where
       ⊎-elim
       (λ (h : 0 < held (tipsOf s) x).
       let t = tip x h in
-      let q : at cs (getD (tipsOf s) (t .0) 0) .layer + 1 ≡ s .top = r .newest (t .0) (t .1) (omega (arith, t .2)) in
+      let q : at cs (tipAt s (t .0)) .layer + 1 ≡ s .top = r .newest (t .0) (t .1) (omega (arith, t .2)) in
       let q′ : at cs x .layer + 1 ≡ s .top = rw (t .2) at q in
       absurd (omega arith))
       (λ (h : held (tipsOf s) x ≤ 0).
@@ -123,7 +123,7 @@ module _ (s : Tree) (r : Valid s) where
       (cases-lt 0 (held (tipsOf s) x))
 
   -- what a cell in use is on the path of some mode
-  pub on-place : (j x : ℕ) → x < 1024 → 0 < at cs x .refs → at cs x .layer ≡ s .base + j → (u : ℕ) × (u < 32) × (getD (tipsOf s) u 0 < 1024) × (getD (pathOf s u) j 0 ≡ at cs x .mode)
+  pub on-place : (j x : ℕ) → x < 1024 → 0 < at cs x .refs → at cs x .layer ≡ s .base + j → (u : ℕ) × (u < 32) × (tipAt s u < 1024) × (getD (pathOf s u) j 0 ≡ at cs x .mode)
   on-place j x l u e =
       let lt = r .old x l u in
       let n = s .top - (s .base + 1) in
@@ -133,30 +133,30 @@ module _ (s : Tree) (r : Valid s) where
         p .0,
         p .1,
         p .2,
-        ap (λ (d : ℕ). getD (path cs d (getD (tipsOf s) (p .0) 0)) j 0) z
-            ∙ path-at cs n j (getD (tipsOf s) (p .0) 0) jl
+        ap (λ (d : ℕ). getD (path cs d (tipAt s (p .0))) j 0) z
+            ∙ path-at cs n j (tipAt s (p .0)) jl
             ∙ ap (λ (y : ℕ). at cs y .mode) (p .3),
       )
 
   -- and what is on the path of a mode is a cell in use
-  pub at-place : (j u : ℕ) → u < 32 → getD (tipsOf s) u 0 < 1024 → s .base + j < s .top → (x : ℕ) × (x < 1024) × (0 < at cs x .refs) × (at cs x .layer ≡ s .base + j) × (getD (pathOf s u) j 0 ≡ at cs x .mode)
+  pub at-place : (j u : ℕ) → u < 32 → tipAt s u < 1024 → s .base + j < s .top → (x : ℕ) × (x < 1024) × (0 < at cs x .refs) × (at cs x .layer ≡ s .base + j) × (getD (pathOf s u) j 0 ≡ at cs x .mode)
   at-place j u l m d =
       let n = s .top - (s .base + 1) in
       let z : s .top - s .base ≡ suc n = omega arith in
       let jl : j < suc n = omega arith in
-      let a = above-used (n - j) j (getD (tipsOf s) u 0) m (tip-used s r u l m) (omega (arith, r .newest u l m)) in (
-        above cs (n - j) (getD (tipsOf s) u 0),
+      let a = above-used (n - j) j (tipAt s u) m (tip-used s r u l m) (omega (arith, r .newest u l m)) in (
+        above cs (n - j) (tipAt s u),
         a .0,
         a .1,
         a .2,
-        ap (λ (d : ℕ). getD (path cs d (getD (tipsOf s) u 0)) j 0) z ∙ path-at cs n j (getD (tipsOf s) u 0) jl,
+        ap (λ (d : ℕ). getD (path cs d (tipAt s u)) j 0) z ∙ path-at cs n j (tipAt s u) jl,
       )
 
   -- where the oldest layer has not one cell, two paths part
   pub parted : s .width ≢ 1 → s .base < s .top → Apart s
   parted ne d =
       let t = r .holds in
-      let w : (u : ℕ) × (u < 32) × (getD (tipsOf s) u 0 < 1024) = ⊎-elim (λ f. f) (λ none. absurd (r .any d none)) (find (tipsOf s) 32) in
+      let w : (u : ℕ) × (u < 32) × (tipAt s u < 1024) = ⊎-elim (λ f. f) (λ none. absurd (r .any d none)) (find (tipsOf s) 32) in
       let b = at-place 0 (w .0) (w .1) (w .2) (omega arith) in
       let mine : share one cs (s .base) 1024 (b .0) ≡ 1 = share-mine one cs (s .base) 1024 (b .0) (b .2) (owner-oldest cs (s .base) (b .0) (omega (arith, b .3))) in
       let wide : 1 < under one cs (s .base) 1024 = omega (arith, tally-ge (share one cs (s .base) 1024) (b .0) 1024 (b .1), t .wide, ne) in

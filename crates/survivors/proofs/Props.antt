@@ -9,7 +9,7 @@ use mathlib.Core.List.{List}
 use Prim.Native.Nat.{ℕ, _+_, _<_, _≤_}
 use lib.ListN.{length, getD}
 use Rattle.survivors.specs.Cells.{at, under, one, place, inUse, Shape, Stack, Links}
-use Rattle.survivors.specs.Trees.{tipsOf, Real, Holds, held, Valid, Tips}
+use Rattle.survivors.specs.Trees.{tipsOf, Real, Holds, held, Valid, Tips, tipAt}
 use Rattle.survivors.specs.declared.tree.Cell.{Cell}
 use Rattle.survivors.specs.declared.tree.Tree.{Tree}
 
@@ -57,11 +57,11 @@ valid-prop s a b =
     let p-tips : IsProp (Tips (tipsOf s) (s .modes)) = tips-prop (tipsOf s) (s .modes) in
     let p-few : IsProp (s .modes ≤ 32) = search props depth 14 in
     let p-real : IsProp (Real (s .tips)) = Π-prop (λ u. Π-prop (λ c. Π-prop (λ _. le-prop))) in
-    let p-newest : IsProp ((u : ℕ) → u < 32 → getD (tipsOf s) u 0 < 1024 → at (s .cells) (getD (tipsOf s) u 0) .layer + 1 ≡ s .top) = search props depth 14 in
-    let p-ends : IsProp ((u : ℕ) → u < 32 → getD (tipsOf s) u 0 < 1024 → at (s .cells) (getD (tipsOf s) u 0) .mode ≡ u) = search props depth 14 in
+    let p-newest : IsProp ((u : ℕ) → u < 32 → tipAt s u < 1024 → at (s .cells) (tipAt s u) .layer + 1 ≡ s .top) = search props depth 14 in
+    let p-ends : IsProp ((u : ℕ) → u < 32 → tipAt s u < 1024 → at (s .cells) (tipAt s u) .mode ≡ u) = search props depth 14 in
     let p-old : IsProp ((x : ℕ) → x < 1024 → 0 < at (s .cells) x .refs → at (s .cells) x .layer < s .top) = search props depth 14 in
-    let p-none : IsProp (s .base ≡ s .top → (u : ℕ) → u < 32 → getD (tipsOf s) u 0 ≡ 1024) = search props depth 14 in
-    let p-any : IsProp (s .base < s .top → ((u : ℕ) → u < 32 → 1024 ≤ getD (tipsOf s) u 0) → ⊥) = search props depth 14 in
+    let p-none : IsProp (s .base ≡ s .top → (u : ℕ) → u < 32 → tipAt s u ≡ 1024) = search props depth 14 in
+    let p-any : IsProp (s .base < s .top → ((u : ℕ) → u < 32 → 1024 ≤ tipAt s u) → ⊥) = search props depth 14 in
     λ i. record { holds = p-holds (a .holds) (b .holds) i; tips = p-tips (a .tips) (b .tips) i; few = p-few (a .few) (b .few) i; real = p-real (a .real) (b .real) i; newest = p-newest (a .newest) (b .newest) i; ends = p-ends (a .ends) (b .ends) i; old = p-old (a .old) (b .old) i; none = p-none (a .none) (b .none) i; any = p-any (a .any) (b .any) i }
 
 -- what a ghost field ∥ Valid tree ∥₁ gives

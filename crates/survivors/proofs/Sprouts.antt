@@ -10,7 +10,7 @@ use lib.ListN.{length, getD, set}
 use Rattle.std.proofs.shelf.Tests.{cases-eq, cases-lt}
 use Rattle.std.proofs.shelf.Lists.{getD-set-same, getD-set-other, getD-map}
 use Rattle.survivors.specs.Cells.{at, path, owner, under, one}
-use Rattle.survivors.specs.Trees.{tipOf, tipsOf, Real, chosen, fromOf, Holds, held, both, Valid, Tips, Attached, Ready, Next, Sprout, Shed, Layered, pathOf}
+use Rattle.survivors.specs.Trees.{tipOf, tipsOf, Real, chosen, fromOf, Holds, held, both, Valid, Tips, Attached, Ready, Next, Sprout, Shed, Layered, pathOf, tipAt}
 use Rattle.survivors.specs.declared.tree.Cell.{Cell}
 use Rattle.survivors.specs.declared.tree.Tree.{Tree}
 use Rattle.survivors.proofs.Shares.{owner-parent, owner-used}
@@ -21,8 +21,8 @@ tips-more : (tips : List ℕ) (n : ℕ) → Tips tips n → Tips tips (n + 1)
 tips-more tips n t = record { many = t .many; each = t .each; beyond = λ u l k. t .beyond u l (omega arith) }
 
 -- the tip of a mode is in use
-pub tip-used : (s : Tree) (r : Valid s) (u : ℕ) → u < 32 → getD (tipsOf s) u 0 < 1024 → 0 < at (s .cells) (getD (tipsOf s) u 0) .refs
-tip-used s r u l m = omega (arith, r .holds .count (getD (tipsOf s) u 0) m, held-some (tipsOf s) u l)
+pub tip-used : (s : Tree) (r : Valid s) (u : ℕ) → u < 32 → tipAt s u < 1024 → 0 < at (s .cells) (tipAt s u) .refs
+tip-used s r u l m = omega (arith, r .holds .count (tipAt s u) m, held-some (tipsOf s) u l)
 
 module _ (o : Tree) (preds : List ℕ) (x : Next o preds) (n : ℕ) (s : Tree) (new : List ℕ) (g : Sprout o preds n s new) (l : n < length preds) where
   n-few : n < 32
@@ -63,21 +63,21 @@ module _ (o : Tree) (preds : List ℕ) (x : Next o preds) (n : ℕ) (s : Tree) (
 
   module _ (near : getD preds n 0 < 32) where
     abbrev p : ℕ
-    p = getD (tipsOf s) (getD preds n 0) 0
+    p = tipAt s (getD preds n 0)
 
-    p-is : getD (tipsOf s) (getD preds n 0) 0 ≡ getD (tipsOf o) (getD preds n 0) 0
+    p-is : tipAt s (getD preds n 0) ≡ tipAt o (getD preds n 0)
     p-is = ap (λ (z : List ℕ). getD z (getD preds n 0) 0) (g .oldTips)
 
     deep : s .base < s .top → o .base < o .top
     deep d = omega (arith, g .base, g .top)
 
-    p-below : s .base < s .top → getD (tipsOf o) (getD preds n 0) 0 < 1024
+    p-below : s .base < s .top → tipAt o (getD preds n 0) < 1024
     p-below d = x .from n l near (deep d)
 
-    p-used : (d : s .base < s .top) → 0 < at (o .cells) (getD (tipsOf o) (getD preds n 0) 0) .refs
+    p-used : (d : s .base < s .top) → 0 < at (o .cells) (tipAt o (getD preds n 0)) .refs
     p-used d = tip-used o (x .valid) (getD preds n 0) near (p-below d)
 
-    pub ready : Ready s (both new (held (tipsOf o))) n (getD (tipsOf s) (getD preds n 0) 0)
+    pub ready : Ready s (both new (held (tipsOf o))) n (tipAt s (getD preds n 0))
     ready = record {
       holds = g .holds;
       small = n-few;
@@ -85,11 +85,11 @@ module _ (o : Tree) (preds : List ℕ) (x : Next o preds) (n : ℕ) (s : Tree) (
       room = omega (arith, g .room, x .room);
       fresh = λ y yl u e q. omega (arith, g .young y yl u (e ∙ g .top), q);
       below = λ d. rw p-is (p-below d);
-      used = λ d. rw p-is (g .uses (getD (tipsOf o) (getD preds n 0) 0) (p-below d) (p-used d));
-      layer = λ d. rw (p-is, g .layer (getD (tipsOf o) (getD preds n 0) 0) (p-below d) (p-used d)) (x .valid .newest (getD preds n 0) near (p-below d) ∙ sym (g .top));
+      used = λ d. rw p-is (g .uses (tipAt o (getD preds n 0)) (p-below d) (p-used d));
+      layer = λ d. rw (p-is, g .layer (tipAt o (getD preds n 0)) (p-below d) (p-used d)) (x .valid .newest (getD preds n 0) near (p-below d) ∙ sym (g .top));
     }
 
-    pub grown : (i : ℕ) (t : Tree) → Attached s n (getD (tipsOf s) (getD preds n 0) 0) i t → Sprout o preds (n + 1) t (set new n i)
+    pub grown : (i : ℕ) (t : Tree) → Attached s n (tipAt s (getD preds n 0)) i t → Sprout o preds (n + 1) t (set new n i)
     grown i t a = record {
       holds = tree-held           (held-put new (held (tipsOf o)) n i (g .tips .many) n-few (g .tips .beyond n n-few (omega arith))) (a .holds (both new (held (tipsOf o))) (g .holds));
       tips = tips-set new (n + 1) n i (tips-more new n (g .tips)) (omega arith) (omega (arith, n-few)) (omega (arith, a .below));
@@ -239,7 +239,7 @@ module _ (o : Tree) (preds : List ℕ) (x : Next o preds) (s : Tree) (raw : List
       let m = g .reach u ul k in
       let n = o .top - o .base in
       let e : (t .top + 1) - t .base ≡ suc n = omega (arith, d .top, g .top, d .base, g .base, x .valid .holds .shape .span) in
-      let c = getD (tipsOf o) (getD preds u 0) 0 in
+      let c = tipAt o (getD preds u 0) in
       let q : at (t .cells) (getD new u 0) .parent ≡ c = d .kept .same .parent (getD new u 0) m ∙ g .newParent u ul k in
       let r : at (t .cells) (getD new u 0) .mode ≡ u = d .kept .same .mode (getD new u 0) m ∙ g .newMode u ul k in
       ap (λ (j : ℕ). path (t .cells) j (getD new u 0)) e
@@ -247,12 +247,12 @@ module _ (o : Tree) (preds : List ℕ) (x : Next o preds) (s : Tree) (raw : List
       ∙ ap (λ (y : ℕ). path (t .cells) n c ++ (y ∷ [])) r
       ∙ ap (λ (z : List ℕ). z ++ (u ∷ [])) (old-path (cases-lt (o .base) (o .top)))
     where
-      old-path : ((o .base < o .top) ⊎ (o .top ≤ o .base)) → path (t .cells) (o .top - o .base) (getD (tipsOf o) (getD preds u 0) 0) ≡ pathOf o (getD preds u 0)
+      old-path : ((o .base < o .top) ⊎ (o .top ≤ o .base)) → path (t .cells) (o .top - o .base) (tipAt o (getD preds u 0)) ≡ pathOf o (getD preds u 0)
       old-path (inr z) =
           let e : o .top - o .base ≡ 0 = omega arith in
           rw e refl
       old-path (inl z) =
-          let c = getD (tipsOf o) (getD preds u 0) 0 in
+          let c = tipAt o (getD preds u 0) in
           let m = x .from u ul k z in
           let n = (o .top - o .base) - 1 in
           let e : o .top - o .base ≡ suc n = omega arith in

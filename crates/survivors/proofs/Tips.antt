@@ -13,7 +13,7 @@ use Rattle.std.specs.declared.option.Option.{Option}
 use Rattle.std.specs.declared.option.Option.the-variants.{Some, None}
 use Rattle.survivors.specs.Sums.{tally}
 use Rattle.survivors.specs.Cells.{plus, Links, Kept}
-use Rattle.survivors.specs.Trees.{tipOf, tipsOf, Real, Holds, held, both, Tips, Released, Shed}
+use Rattle.survivors.specs.Trees.{tipOf, tipsOf, Real, Holds, held, both, Tips, Released, Shed, tipAt}
 use Rattle.survivors.specs.declared.tree.Cell.{Cell}
 use Rattle.survivors.specs.declared.tree.Tree.{Tree}
 use Rattle.survivors.proofs.Tallies.{tally-change, tally-ge, tally-bound}
@@ -100,7 +100,7 @@ pub record Shedding (o s : Tree) (k i : ℕ) : Type 0 where
   pub top : s .top ≡ o .top
   pub modes : s .modes ≡ o .modes
   pub tips : Tips (tipsOf s) k
-  pub done : (u : ℕ) → u < 32 → u < i → getD (tipsOf s) u 0 ≡ 1024
+  pub done : (u : ℕ) → u < 32 → u < i → tipAt s u ≡ 1024
   pub real : Real (s .tips)
 
 pub kept-self : (cs : List Cell) → Kept cs cs
@@ -119,7 +119,7 @@ tips-set tips k i v t l m b =
     }
 
 -- the state before the call of release
-pub shed-clear : (o s : Tree) (k i : ℕ) → Shedding o s k i → i < k → k ≤ 32 → (h : ℕ → ℕ) → Holds s (both (tipsOf s) h) → Holds s (plus (both (set (tipsOf s) i 1024) h) (getD (tipsOf s) i 0))
+pub shed-clear : (o s : Tree) (k i : ℕ) → Shedding o s k i → i < k → k ≤ 32 → (h : ℕ → ℕ) → Holds s (both (tipsOf s) h) → Holds s (plus (both (set (tipsOf s) i 1024) h) (tipAt s i))
 shed-clear o s k i g l m h t =
     tree-held (held-clear (tipsOf s) h i (g .tips .many) (omega arith)) t
 
@@ -135,7 +135,7 @@ done-more o s k i g l m u ul ui =
 abbrev pub cleared : Tree → ℕ → Tree
 cleared s i = record { cells = s .cells; free = s .free; tips = set (s .tips) i None; room = s .room; base = s .base; top = s .top; width = s .width; first = s .first; modes = s .modes }
 
-pub shed-on : (o s : Tree) (k i : ℕ) → Shedding o s k i → i < k → k ≤ 32 → (t : Tree) → Released (cleared s i) (getD (tipsOf s) i 0) t → Shedding o t k (i + 1)
+pub shed-on : (o s : Tree) (k i : ℕ) → Shedding o s k i → i < k → k ≤ 32 → (t : Tree) → Released (cleared s i) (tipAt s i) t → Shedding o t k (i + 1)
 shed-on o s k i g l m t r =
     let e : tipsOf t ≡ set (tipsOf s) i 1024 = ap (λ (z : List (Option ℕ)). map tipOf z) (r .tips) ∙ map-set tipOf (s .tips) i None in
     record {
@@ -151,7 +151,7 @@ shed-on o s k i g l m t r =
     }
 
 -- a mode without a tip
-pub shed-skip : (o s : Tree) (k i : ℕ) → Shedding o s k i → i < k → k ≤ 32 → 1024 ≤ getD (tipsOf s) i 0 → Shedding o s k (i + 1)
+pub shed-skip : (o s : Tree) (k i : ℕ) → Shedding o s k i → i < k → k ≤ 32 → 1024 ≤ tipAt s i → Shedding o s k (i + 1)
 shed-skip o s k i g l m none = record {
   some = g .some;
   all = g .all;
@@ -178,7 +178,7 @@ shed-all o s k g m = record {
   tips = record { many = g .tips .many; each = g .tips .each; beyond = λ u ul _. empty u ul };
 }
   where
-    empty : (u : ℕ) → u < 32 → getD (tipsOf s) u 0 ≡ 1024
+    empty : (u : ℕ) → u < 32 → tipAt s u ≡ 1024
     empty u ul = ⊎-elim (λ (l : u < k). g .done u ul l) (λ (l : k ≤ u). g .tips .beyond u ul l) (cases-lt u k)
 
 -- a tip that was read

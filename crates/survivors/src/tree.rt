@@ -4,7 +4,7 @@ ghost use Prim.Native.Nat.{ℕ, _<_, _≤_};
 ghost use lib.ListN.{length, getD};
 ghost use Rattle.std.specs.declared.option.Option.the-variants.{None, Some};
 ghost use Rattle.survivors.specs.Cells.{plus};
-ghost use Rattle.survivors.specs.Trees.{Apart, Attached, Cleared, Ended, Layered, Holds, Next, Ready, Real, Released, Settling, Shed, Sprout, Tips, Valid, both, chosen, tipOf, tipsOf};
+ghost use Rattle.survivors.specs.Trees.{Apart, Attached, Cleared, Ended, Layered, Holds, Next, Ready, Real, Released, Settling, Shed, Sprout, Tips, Valid, both, chosen, tipAt, tipOf, tipsOf};
 
 /// A mode at a reading, on the path of some tip.
 #[derive(Clone, Copy)]
@@ -150,7 +150,7 @@ impl Tree {
     fn tip(&self, u: usize) -> u16
         requires mode { ⌜ u < 32 ⌝ }
         requires tips { ⌜ length (now self .tips) ≡ 32 ⌝ }
-        ensures { λ r. ⌜ r ≡ getD (tipsOf (now (self .entry))) u 0 ⌝ }
+        ensures { λ r. ⌜ r ≡ tipAt (now (self .entry)) u ⌝ }
     {
         let tip = self.tips[u];
         match tip {
@@ -222,7 +222,7 @@ impl Tree {
     pub fn finish(&mut self, best: usize, ring: &mut [u8; 4096])
         requires valid { ⌜ Valid (now self) ⌝ }
         requires mode { ⌜ best < now self .modes ⌝ }
-        requires tip { ⌜ getD (tipsOf (now self)) best 0 < 1024 ⌝ }
+        requires tip { ⌜ tipAt (now self) best < 1024 ⌝ }
         ensures { λ _. ⌜ Ended (now (self .entry)) best (now (ring .entry)) (now (self .exit)) (now (ring .exit)) ⌝ }
     {
         let tip = self.tips[best];

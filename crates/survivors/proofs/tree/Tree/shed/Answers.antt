@@ -1,10 +1,10 @@
 use mathlib.Core.Path.{_≡_, sym, subst}
 use Prim.Native.Nat.{ℕ, _+_, _<_, _≤_}
 use native.Mathlib.Omega.{arith}
-use Rattle.survivors.specs.Trees.{both, Holds, Released, tipsOf}
+use Rattle.survivors.specs.Trees.{both, Holds, Released, tipsOf, tipAt}
 use Rattle.survivors.specs.Cells.{plus}
 use Rattle.survivors.specs.declared.tree.Tree.{Tree}
-use lib.ListN.{set, getD, length}
+use lib.ListN.{set, length}
 use Rattle.survivors.proofs.Tips.{Shedding, shed-clear, shed-on, shed-skip, shed-all, cleared, read-some, read-none}
 use Rattle.survivors.proofs.tree.Tree.shed.Needs as need
 use Rattle.survivors.proofs.tree.Tree.shed.Needs.{in-Some, in-rest}
@@ -18,7 +18,7 @@ release-requires c κs =
     let s = c .loop-i .self in
     let g = c .loop-i .inv in
     let i = c .loop-i .i in
-    let e : getD (tipsOf s) i 0 ≡ c .in-Some .c = read-some (s .tips) i (c .in-Some .c) (short o s (c .args .self .now .modes) i g (c .loop-i-test .taken) (c .pre .few)) (c .in-Some .is) in
+    let e : tipAt s i ≡ c .in-Some .c = read-some (s .tips) i (c .in-Some .c) (short o s (c .args .self .now .modes) i g (c .loop-i-test .taken) (c .pre .few)) (c .in-Some .is) in
     let h = both (set (tipsOf s) i 1024) (g .some .0) in
     record {
       held = (h, subst (λ (x : ℕ). Holds s (plus h x)) e (shed-clear o s (c .args .self .now .modes) i g (c .loop-i-test .taken) (c .pre .few) (g .some .0) (g .some .1)));
@@ -35,7 +35,7 @@ loop-i-again c =
     let n = short o s (c .args .self .now .modes) i g (c .loop-i-test .taken) (c .pre .few) in
     elim (c .match-tip .came) [
       | in-Some w ↦
-          let e : getD (tipsOf s) i 0 ≡ w .in-Some .c = read-some (s .tips) i (w .in-Some .c) n (w .in-Some .is) in
+          let e : tipAt s i ≡ w .in-Some .c = read-some (s .tips) i (w .in-Some .c) n (w .in-Some .is) in
           subst P (sym (w .self-is)) (shed-on o s (c .args .self .now .modes) i g (c .loop-i-test .taken) (c .pre .few) (w .release .last .self)
           (subst (λ (x : ℕ). Released (cleared s i) x (w .release .last .self)) (sym e) (w .release .ensures)))
       | in-rest w ↦

@@ -6,7 +6,7 @@ use lib.ListN.{set, length, getD}
 use Rattle.std.specs.declared.option.Option.{Option}
 use Rattle.std.specs.declared.option.Option.the-variants.{Some, None}
 use Rattle.std.proofs.shelf.Lists.{length-map, map-set}
-use Rattle.survivors.specs.Trees.{Attached, Ready, Next, Real, both, chosen, fromOf, held, tipOf, tipsOf, Sprout}
+use Rattle.survivors.specs.Trees.{Attached, Ready, Next, Real, both, chosen, fromOf, held, tipOf, tipsOf, Sprout, tipAt}
 use Rattle.survivors.specs.declared.tree.Tree.{Tree}
 use Rattle.survivors.proofs.Tips.{real-set}
 use Rattle.survivors.proofs.Sprouts.{sprout-none, skip, ready, grown, from-some, from-none}
@@ -33,10 +33,10 @@ cast-u c = omega (arith, few (c .args .self .now) (c .args .preds .now) (c .pre 
 
 -- the cell that the mode goes on from
 ready-at : (o : Tree) (preds : List (Option ℕ)) → Next o (chosen preds) → (u : ℕ) (s : Tree) (new : List ℕ) → Sprout o (chosen preds) u s new → u < length preds
-    → (x : ℕ) → getD preds u None ≡ Some x → x < 32 → (p : ℕ) → p ≡ getD (tipsOf s) x 0 → Ready s (both new (held (tipsOf o))) u p
+    → (x : ℕ) → getD preds u None ≡ Some x → x < 32 → (p : ℕ) → p ≡ tipAt s x → Ready s (both new (held (tipsOf o))) u p
 ready-at o preds n u s new g l x e m p q =
     let f = from-some preds u x l e in
-    subst (λ (y : ℕ). Ready s (both new (held (tipsOf o))) u y) (ap (λ (y : ℕ). getD (tipsOf s) y 0) f ∙ sym q)
+    subst (λ (y : ℕ). Ready s (both new (held (tipsOf o))) u y) (ap (λ (y : ℕ). tipAt s y) f ∙ sym q)
     (ready o (chosen preds) n u s new g (within preds u l) (subst (λ (y : ℕ). y < 32) (sym f) m))
 
 pub attach-i-requires : need.attach-i-requires
@@ -50,12 +50,12 @@ pub index-tips-u : need.index-tips-u
 index-tips-u c = few (c .args .self .now) (c .args .preds .now) (c .pre .next) (c .loop-u .u) (c .loop-u-test .taken)
 
 grown-at : (o : Tree) (preds : List (Option ℕ)) → Next o (chosen preds) → (u : ℕ) (s : Tree) (raw : List (Option ℕ)) → Sprout o (chosen preds) u s (map tipOf raw) → u < length preds
-    → (x : ℕ) → getD preds u None ≡ Some x → x < 32 → (p : ℕ) → p ≡ getD (tipsOf s) x 0 → (i : ℕ) (t : Tree) → Attached s u p i t → Sprout o (chosen preds) (u + 1) t (map tipOf (set raw u (Some i)))
+    → (x : ℕ) → getD preds u None ≡ Some x → x < 32 → (p : ℕ) → p ≡ tipAt s x → (i : ℕ) (t : Tree) → Attached s u p i t → Sprout o (chosen preds) (u + 1) t (map tipOf (set raw u (Some i)))
 grown-at o preds n u s raw g l x e m p q i t a =
     let f = from-some preds u x l e in
     subst (Sprout o (chosen preds) (u + 1) t) (sym (map-set tipOf raw u (Some i)))
     (grown o (chosen preds) n u s (map tipOf raw) g (within preds u l) (subst (λ (y : ℕ). y < 32) (sym f) m) i t
-    (subst (λ (y : ℕ). Attached s u y i t) (q ∙ ap (λ (y : ℕ). getD (tipsOf s) y 0) (sym f)) a))
+    (subst (λ (y : ℕ). Attached s u y i t) (q ∙ ap (λ (y : ℕ). tipAt s y) (sym f)) a))
 
 pub loop-u-again : need.loop-u-again
 loop-u-again c =
