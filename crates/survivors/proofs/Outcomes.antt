@@ -9,10 +9,10 @@ use Rattle.std.specs.declared.option.Option.{Option}
 use Rattle.std.specs.declared.option.Option.the-variants.{None, Some}
 use Rattle.std.proofs.shelf.Tests.{cases-lt}
 use Rattle.std.proofs.shelf.Lists.{length-map, getD-map, getD-past, nil-from-length}
-use Rattle.viterbi.specs.Lists.{Begins, Shared}
+use Rattle.viterbi.specs.Lists.{Begins, Counted, Shared}
 use Rattle.survivors.specs.Ring.{Written}
 use Rattle.survivors.specs.Trees.{Apart, Cleared, Ended, Layered, Next, Settling, Valid, chosen, fromOf, tipOf, tipsOf, tipAt}
-use Rattle.survivors.specs.Survivors.{Blank, Finished, Grown, HasTip, MayGrow, PathOf, Settled, decided, pathTo, taken}
+use Rattle.survivors.specs.Survivors.{Blank, Finished, Grown, HasTip, MayGrow, OnPath, PathOf, Settled, decided, pathTo, taken}
 use Rattle.survivors.specs.declared.Survivors.{Survivors}
 use Rattle.survivors.proofs.Lists.{before-fork}
 use Rattle.survivors.proofs.Rings.{written-none}
@@ -75,6 +75,9 @@ grown-of s preds m t g =
 no-tips : (t : Survivors) → Valid (t .tree) → decided t ≡ taken t → (u : ℕ) → HasTip t u → ⊥
 no-tips t r e u h = omega (arith, tip-cell (t .tree) r u h, r .none e u (tip-mode (t .tree) r u h))
 
+no-live : (t : Survivors) → ((u : ℕ) → HasTip t u → ⊥) → Counted (OnPath t) 0
+no-live t none = record { pairs = []; many = refl; once = tt; all = λ i m o. absurd (none (o .to) (o .tip)); only = λ i m h. absurd h }
+
 module _ (s : Survivors) (ring : List ℕ) (t : Survivors) (ring′ : List ℕ) (g : Settling (s .tree) ring (t .tree) ring′) (most : decided t < taken t → Apart (t .tree)) where
   still : decided t < taken t → (u : ℕ) → tipAt (t .tree) u < 1024 → tipAt (s .tree) u < 1024
   still d u m = let e : tipsOf (t .tree) ≡ tipsOf (s .tree) = ap tipsOf′ (g .tips d) in rw e at m
@@ -133,6 +136,7 @@ finished-of s best ring t ring′ g = record {
   all-decided = g .base;
   written = g .written;
   no-tip = no-tips t (g .valid) (g .base ∙ sym (g .top));
+  no-live = no-live t (no-tips t (g .valid) (g .base ∙ sym (g .top)));
 }
 
 -- with no undecided reading, nothing happens
@@ -144,7 +148,10 @@ finished-none s best ring l =
       all-decided = e;
       written = subst (λ (z : List ℕ). Written ring (decided s) z ring) (sym (nil-from-length (pathTo s best) (omega (arith, pathTo-length s best)))) (written-none ring (decided s));
       no-tip = no-tips s (valid s) e;
+      no-live = no-live s (no-tips s (valid s) e);
     }
 
 pub blank-of : (s : Survivors) → Cleared (s .tree) → Blank s
-blank-of s b = record { none-taken = b .top; none-decided = b .base; no-tip = no-tips s (b .valid) (b .base ∙ sym (b .top)) }
+blank-of s b =
+    let none = no-tips s (b .valid) (b .base ∙ sym (b .top)) in
+    record { none-taken = b .top; none-decided = b .base; no-tip = none; no-live = no-live s none }

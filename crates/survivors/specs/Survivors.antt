@@ -40,11 +40,12 @@ pub record OnPath (s : Survivors) (i m : ℕ) : Type 0 where
   pub inside : i < taken s
   pub lies : getD (pathTo s to) (i - decided s) 0 ≡ m
 
--- Nothing is taken, and no mode has a tip.
+-- No reading is taken, no mode has a tip, and nothing is live.
 pub record Blank (s : Survivors) : Type 0 where
   pub none-taken : taken s ≡ 0
   pub none-decided : decided s ≡ 0
   pub no-tip : (u : ℕ) → HasTip s u → ⊥
+  pub no-live : Counted (OnPath s) 0
 
 -- The survivors can take one more reading: some mode is reachable, each mode goes on from one that has a tip (from any, where all is decided),
 -- and there are free cells for all modes.
@@ -75,9 +76,10 @@ pub record Settled (s : Survivors) (ring : List ℕ) (t : Survivors) (ring′ : 
   pub tips : (u : ℕ) → HasTip s u → decided t < taken t → HasTip t u
   pub no-tip : (u : ℕ) → HasTip t u → HasTip s u × (decided t < taken t)
 
--- The whole path to the mode best is decided and written to the ring, and no mode has a tip.
+-- The whole path to the mode best is decided and written to the ring; no mode has a tip any more, and nothing is live.
 pub record Finished (s : Survivors) (best : ℕ) (ring : List ℕ) (t : Survivors) (ring′ : List ℕ) : Type 0 where
   pub none-taken : taken t ≡ taken s
   pub all-decided : decided t ≡ taken s
   pub written : Written ring (decided s) (pathTo s best) ring′
   pub no-tip : (u : ℕ) → HasTip t u → ⊥
+  pub no-live : Counted (OnPath t) 0
