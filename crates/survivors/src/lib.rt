@@ -12,3 +12,6 @@ pub struct Survivors {
     tree: Tree,
     ghost valid: { ∥ Valid tree ∥₁ },
 }
+
+#[cfg(test)]
+mod tests;
