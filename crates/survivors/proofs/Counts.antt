@@ -72,8 +72,8 @@ module _ (cs : List Cell) where
   spots-once base top s (suc n) l = ⊎-elim
       (λ (u : 0 < at cs n .refs). subst Distinct (sym (with-it n u)) (
         (λ h.
-        let b = spots-only n (spot cs n) h in
-        omega (arith, b .1, s .lone n (b .0) (omega arith) (omega (arith, b .1)) u (b .2) (ap (λ (z : ℕ × ℕ). z .0) (b .3)) (ap (λ (z : ℕ × ℕ). z .1) (b .3)))),
+            let b = spots-only n (spot cs n) h in
+            omega (arith, b .1, s .lone n (b .0) (omega arith) (omega (arith, b .1)) u (b .2) (ap (λ (z : ℕ × ℕ). z .0) (b .3)) (ap (λ (z : ℕ × ℕ). z .1) (b .3)))),
         spots-once base top s n (omega arith),
       ))
       (λ (z : at cs n .refs ≤ 0). subst Distinct (sym (without n z)) (spots-once base top s n (omega arith)))

@@ -169,7 +169,7 @@ shed-skip o s k i g l m none = record {
 
 pub shed-all : (o s : Tree) (k : ℕ) → Shedding o s k k → k ≤ 32 → Shed o s
 shed-all o s k g m = record {
-  holds = λ h t. tree-held       (λ x l. omega (arith, held-none (tipsOf s) x (λ u ul q. omega (arith, empty u ul)))) (g .all h t);
+  holds = λ h t. tree-held (λ x l. omega (arith, held-none (tipsOf s) x (λ u ul q. omega (arith, empty u ul)))) (g .all h t);
   kept = g .kept;
   base = g .base;
   top = g .top;

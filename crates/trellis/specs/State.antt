@@ -4,7 +4,7 @@ use mathlib.Core.Bool.{cond}
 use mathlib.Core.List.{List}
 use Rattle.std.specs.declared.option.Option.{Option}
 use Rattle.cost.specs.declared.charge.Total.{Total}
-use Rattle.trellis.specs.declared.state.Rows.{Rows}
+use Rattle.trellis.specs.declared.Rows.{Rows}
 
 -- The row of totals after the readings so far.
 abbrev pub present : Rows → List (Option Total)

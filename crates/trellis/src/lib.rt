@@ -1,8 +1,19 @@
 //! One reading of the trellis: from the totals of all modes to the next totals, and the predecessor of each mode.
+ghost use Prim.Native.Nat.{_≤_};
+
 mod best;
+mod calls;
 mod row;
-mod rows;
-mod state;
 
 pub use best::Best;
-pub use state::Rows;
+use cost::Total;
+
+/// Two rows of totals, one for each mode: the present one, and one to write the next into.
+#[derive(Drop)]
+pub struct Rows {
+    modes: usize,
+    even: [Option<Total>; 32],
+    odd: [Option<Total>; 32],
+    turned: bool,
+    ghost few: { modes ≤ 32 },
+}

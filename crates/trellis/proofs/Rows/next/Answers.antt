@@ -3,7 +3,7 @@ use mathlib.Core.Bool.{cond}
 use Rattle.std.proofs.shelf.Tests.{cond-true, cond-false}
 use Rattle.trellis.specs.Rows.{Advances, Marked, AllBacked}
 use Rattle.trellis.specs.State.{present}
-use Rattle.trellis.proofs.state.Rows.next.Needs as need
+use Rattle.trellis.proofs.Rows.next.Needs as need
 
 pub returns-then-self : need.returns-then-self
 returns-then-self g c =

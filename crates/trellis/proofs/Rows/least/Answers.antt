@@ -5,7 +5,7 @@ use Rattle.std.proofs.shelf.Tests.{cond-true, cond-false}
 use Rattle.cost.specs.declared.charge.Total.{Total}
 use Rattle.trellis.specs.Rows.{Ends, Backed}
 use Rattle.trellis.specs.State.{present}
-use Rattle.trellis.proofs.state.Rows.least.Needs as need
+use Rattle.trellis.proofs.Rows.least.Needs as need
 
 pub returns-then-self : need.returns-then-self
 returns-then-self g c =

@@ -2,11 +2,11 @@ ghost use mathlib.Core.Path.{_≡_};
 ghost use Prim.Native.Nat.{min};
 ghost use Rattle.trellis.specs.Rows.{MODES, Backed, Advances, First, Ends, Marked, AllBacked, AllThemselves};
 ghost use Rattle.trellis.specs.State.{present, other, Kept, Turned};
+use super::Rows;
 use super::best::Best;
 use super::row::first_row;
 use super::row::least_in;
 use super::row::next_row;
-use super::state::Rows;
 use cost::CostKind;
 use model::Model;
 
