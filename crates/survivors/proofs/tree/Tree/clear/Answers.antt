@@ -16,4 +16,4 @@ pub returns : need.returns
 returns c =
     let t = c .shed .last .self in
     let h = c .shed .ensures .holds (λ _. 0) (loose (c .args .self .now) (c .pre .holds)) in
-    empty _ (h .size) (bare-cells h) (h .stack) (c .shed .ensures .real) (c .shed .ensures .tips) (omega (arith, c .shed .ensures .modes, c .pre .few)) refl refl refl refl
+    empty _ (h .size) (bare-cells h) (h .stack) (c .shed .ensures .real) (c .shed .ensures .tips) (omega (arith, c .shed .ensures .modes, c .pre .few)) (omega arith) (omega arith) (omega arith) (omega arith)
