@@ -10,7 +10,7 @@ use lib.Dec.{ltb}
 use Rattle.std.proofs.shelf.Tests.{cases-eq, cases-lt, lt-ltb, le-ltb}
 use Rattle.viterbi.specs.Lists.{In, Distinct}
 use Rattle.survivors.specs.Sums.{tally}
-use Rattle.survivors.specs.Cells.{at, Shape}
+use Rattle.survivors.specs.Cells.{Shape, at}
 use Rattle.survivors.specs.declared.tree.Cell.{Cell}
 
 -- the layer and the mode of a cell
@@ -72,8 +72,8 @@ module _ (cs : List Cell) where
   spots-once base top s (suc n) l = ⊎-elim
       (λ (u : 0 < at cs n .refs). subst Distinct (sym (with-it n u)) (
         (λ h.
-        let b = spots-only n (spot cs n) h in
-        omega (arith, b .1, s .lone n (b .0) (omega arith) (omega (arith, b .1)) u (b .2) (ap (λ (z : ℕ × ℕ). z .0) (b .3)) (ap (λ (z : ℕ × ℕ). z .1) (b .3)))),
+            let b = spots-only n (spot cs n) h in
+            omega (arith, b .1, s .lone n (b .0) (omega arith) (omega (arith, b .1)) u (b .2) (ap (λ (z : ℕ × ℕ). z .0) (b .3)) (ap (λ (z : ℕ × ℕ). z .1) (b .3)))),
         spots-once base top s n (omega arith),
       ))
       (λ (z : at cs n .refs ≤ 0). subst Distinct (sym (without n z)) (spots-once base top s n (omega arith)))

@@ -9,8 +9,8 @@ use lib.ListN.{length, getD, replicate}
 use lib.Dec.{ltb}
 use Rattle.std.proofs.shelf.Tests.{cases-lt}
 use Rattle.std.proofs.shelf.Lists.{getD-replicate}
-use Rattle.survivors.specs.Cells.{void, at, share, under, one, place, inUse, Stack, Links}
-use Rattle.survivors.specs.Trees.{tipsOf, Real, held, Tips, Cleared}
+use Rattle.survivors.specs.Cells.{Links, Stack, at, inUse, one, place, share, under, void}
+use Rattle.survivors.specs.Trees.{Cleared, Real, Tips, held, tipsOf}
 use Rattle.survivors.specs.declared.tree.Cell.{Cell}
 use Rattle.survivors.specs.declared.tree.Tree.{Tree}
 use Rattle.survivors.proofs.Tallies.{tally-none, tally-some}

@@ -13,8 +13,8 @@ use Rattle.std.proofs.shelf.Tests.{cases-lt}
 use Rattle.std.proofs.shelf.Lists.{length-map, getD-map, getD-past}
 use Rattle.viterbi.specs.Lists.{In, Counted, EndsIn}
 use Rattle.survivors.specs.Cells.{at, path}
-use Rattle.survivors.specs.Trees.{Valid, tipOf, tipsOf, tipAt}
-use Rattle.survivors.specs.Survivors.{taken, decided, HasTip, pathTo, OnPath}
+use Rattle.survivors.specs.Trees.{Valid, tipAt, tipOf, tipsOf}
+use Rattle.survivors.specs.Survivors.{HasTip, OnPath, decided, pathTo, taken}
 use Rattle.survivors.specs.declared.tree.Tree.{Tree}
 use Rattle.survivors.specs.declared.Survivors.{Survivors}
 use Rattle.survivors.proofs.Props.{valid-of}

@@ -11,7 +11,7 @@ use Rattle.std.proofs.shelf.Tests.{cases-lt}
 use Rattle.std.proofs.shelf.Lists.{length-map, getD-map, getD-past, nil-from-length}
 use Rattle.viterbi.specs.Lists.{Begins, Counted, Shared}
 use Rattle.survivors.specs.Ring.{Written}
-use Rattle.survivors.specs.Trees.{Apart, Cleared, Ended, Layered, Next, Settling, Valid, chosen, fromOf, tipOf, tipsOf, tipAt}
+use Rattle.survivors.specs.Trees.{Apart, Cleared, Ended, Layered, Next, Settling, Valid, chosen, fromOf, tipAt, tipOf, tipsOf}
 use Rattle.survivors.specs.Survivors.{Blank, Finished, Grown, HasTip, MayGrow, OnPath, PathOf, Settled, decided, pathTo, taken}
 use Rattle.survivors.specs.declared.Survivors.{Survivors}
 use Rattle.survivors.proofs.Lists.{before-fork}

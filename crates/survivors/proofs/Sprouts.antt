@@ -9,8 +9,8 @@ use native.Mathlib.Omega.{arith}
 use lib.ListN.{length, getD, set}
 use Rattle.std.proofs.shelf.Tests.{cases-eq, cases-lt}
 use Rattle.std.proofs.shelf.Lists.{getD-set-same, getD-set-other, getD-map}
-use Rattle.survivors.specs.Cells.{at, path, owner, under, one}
-use Rattle.survivors.specs.Trees.{tipOf, tipsOf, Real, chosen, fromOf, Holds, held, both, Valid, Tips, Attached, Ready, Next, Sprout, Shed, Layered, pathOf, tipAt}
+use Rattle.survivors.specs.Cells.{at, one, owner, path, under}
+use Rattle.survivors.specs.Trees.{Attached, Holds, Layered, Next, Ready, Real, Shed, Sprout, Tips, Valid, both, chosen, fromOf, held, pathOf, tipAt, tipOf, tipsOf}
 use Rattle.survivors.specs.declared.tree.Cell.{Cell}
 use Rattle.survivors.specs.declared.tree.Tree.{Tree}
 use Rattle.survivors.proofs.Shares.{owner-parent, owner-used}
@@ -62,6 +62,7 @@ module _ (o : Tree) (preds : List ℕ) (x : Next o preds) (n : ℕ) (s : Tree) (
           (cases-eq u n)
 
   module _ (near : getD preds n 0 < 32) where
+    -- the cell that the mode n goes on from
     abbrev p : ℕ
     p = tipAt s (getD preds n 0)
 
@@ -91,7 +92,7 @@ module _ (o : Tree) (preds : List ℕ) (x : Next o preds) (n : ℕ) (s : Tree) (
 
     pub grown : (i : ℕ) (t : Tree) → Attached s n (tipAt s (getD preds n 0)) i t → Sprout o preds (n + 1) t (set new n i)
     grown i t a = record {
-      holds = tree-held           (held-put new (held (tipsOf o)) n i (g .tips .many) n-few (g .tips .beyond n n-few (omega arith))) (a .holds (both new (held (tipsOf o))) (g .holds));
+      holds = tree-held (held-put new (held (tipsOf o)) n i (g .tips .many) n-few (g .tips .beyond n n-few (omega arith))) (a .holds (both new (held (tipsOf o))) (g .holds));
       tips = tips-set new (n + 1) n i (tips-more new n (g .tips)) (omega arith) (omega (arith, n-few)) (omega (arith, a .below));
       base = a .base ∙ g .base;
       top = a .top ∙ g .top;
@@ -145,7 +146,7 @@ module _ (o : Tree) (preds : List ℕ) (x : Next o preds) (n : ℕ) (s : Tree) (
 
 pub sprout-none : (o : Tree) (preds : List ℕ) → Next o preds → (new : List ℕ) → Tips new 0 → Sprout o preds 0 o new
 sprout-none o preds x new b = record {
-  holds = tree-held       (λ y yl. omega (arith, held-none new y (λ u ul q. omega (arith, b .beyond u ul (omega arith))))) (x .valid .holds);
+  holds = tree-held (λ y yl. omega (arith, held-none new y (λ u ul q. omega (arith, b .beyond u ul (omega arith))))) (x .valid .holds);
   tips = b;
   base = refl;
   top = refl;
@@ -180,13 +181,15 @@ path-frame s h t cs ps ms (suc n) c l u e =
 
 -- what the old tips hold beside the new ones
 pub holding : (o : Tree) (preds : List ℕ) (n : ℕ) (s : Tree) (new : List ℕ) → Sprout o preds n s new → Holds s (both (tipsOf s) (held new))
-holding o preds n s new g = tree-held     (λ y yl. omega (arith, ap (λ (z : List ℕ). held z y) (g .oldTips))) (g .holds)
+holding o preds n s new g = tree-held (λ y yl. omega (arith, ap (λ (z : List ℕ). held z y) (g .oldTips))) (g .holds)
 
 -- the tree after `grow`
 module _ (o : Tree) (preds : List ℕ) (x : Next o preds) (s : Tree) (raw : List (Option ℕ)) (g : Sprout o preds (length preds) s (map tipOf raw)) (t : Tree) (d : Shed s t) (real : Real raw) (k : ℕ) (wide : k ≡ length preds) where
+  -- the new tips as numbers
   abbrev new : List ℕ
   new = map tipOf raw
 
+  -- the tree with the new tips
   abbrev pub fresh : Tree
   fresh = record { cells = t .cells; free = t .free; tips = raw; room = t .room; base = t .base; top = t .top + 1; width = t .width; first = t .first; modes = k }
 

@@ -91,4 +91,3 @@ tally-pair f (suc n) h k =
     let s = tally-pair f n (λ x m. h x (omega arith)) (omega arith) in
     (s .0, s .1, s .2, omega (arith, s .3), s .4, s .5))
     (cases-lt 0 (f n))
-

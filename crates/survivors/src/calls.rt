@@ -11,9 +11,7 @@ impl Survivors {
         ensures { λ r. ⌜ Blank r ⌝ }
     {
         let tree = Tree::new();
-        Survivors {
-            tree,
-        }
+        Survivors { tree }
     }
 
     /// How many readings were taken.

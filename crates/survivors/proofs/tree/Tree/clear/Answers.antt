@@ -1,6 +1,5 @@
-use mathlib.Core.Path.{refl}
 use native.Mathlib.Omega.{arith}
-use Rattle.survivors.specs.Trees.{Holds, held, both, tipsOf}
+use Rattle.survivors.specs.Trees.{Holds, both, held, tipsOf}
 use Rattle.survivors.specs.declared.tree.Tree.{Tree}
 use Rattle.survivors.proofs.Tips.{tree-held}
 use Rattle.survivors.proofs.Empties.{empty, bare-cells}
