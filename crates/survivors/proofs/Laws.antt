@@ -10,7 +10,7 @@ use Rattle.std.specs.Options.{isSome}
 use Rattle.std.specs.declared.option.Option.{Option}
 use Rattle.std.specs.declared.option.Option.the-variants.{None, Some}
 use Rattle.std.proofs.shelf.Tests.{cases-lt}
-use Rattle.std.proofs.shelf.Lists.{length-map, getD-map, getD-past}
+use Rattle.std.proofs.shelf.Lists.{length-map, getD-map, getD-past, nil-from-length}
 use Rattle.viterbi.specs.Lists.{In, Counted, EndsIn}
 use Rattle.survivors.specs.Cells.{at, path}
 use Rattle.survivors.specs.Trees.{Valid, tipAt, tipOf, tipsOf}
@@ -86,6 +86,10 @@ some-tip s l = ⊎-elim
 -- a path has a mode for each undecided reading
 pub pathTo-length : (s : Survivors) (u : ℕ) → length (pathTo s u) ≡ taken s - decided s
 pathTo-length s u = path-length (s .tree .cells) (taken s - decided s) (tipAt (s .tree) u)
+
+-- so a path is empty where all is decided
+pub pathTo-none : (s : Survivors) (u : ℕ) → taken s ≤ decided s → pathTo s u ≡ []
+pathTo-none s u l = nil-from-length (pathTo s u) (omega (arith, pathTo-length s u))
 
 -- the path to u ends in u
 pub pathTo-ends : (s : Survivors) (u : ℕ) → HasTip s u → EndsIn (pathTo s u) u
