@@ -9,7 +9,7 @@ use lib.ListN.{getD}
 use lib.Dec.{ltb}
 use Rattle.std.proofs.shelf.Tests.{cases-eq, lt-ltb, le-ltb, ltb-true, ltb-false}
 use Rattle.survivors.specs.Sums.{tally}
-use Rattle.survivors.specs.Cells.{at, owner, share, under, one, inUse, Shape, Stack, Links}
+use Rattle.survivors.specs.Cells.{Links, Shape, Stack, at, inUse, one, owner, share, under}
 use Rattle.survivors.specs.declared.tree.Cell.{Cell}
 use Rattle.survivors.proofs.Tallies.{tally-change}
 use Rattle.survivors.proofs.Shares.{share-same, share-none, share-mine, share-not, owner-parent, owner-used}

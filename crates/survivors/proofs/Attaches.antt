@@ -8,7 +8,7 @@ use lib.ListN.{length, getD, set}
 use lib.Dec.{ltb}
 use Rattle.std.proofs.shelf.Tests.{cases-eq, lt-ltb}
 use Rattle.std.proofs.shelf.Lists.{length-set, getD-set-same, getD-set-other}
-use Rattle.survivors.specs.Cells.{void, at, owner, under, one, place, plus, recount, Links, Same}
+use Rattle.survivors.specs.Cells.{Links, Same, at, one, owner, place, plus, recount, under, void}
 use Rattle.survivors.specs.declared.tree.Cell.{Cell}
 use Rattle.survivors.proofs.Shares.{recount-other, recount-refs, recount-heirs, recount-same, owner-oldest, owner-parent, plus-here, plus-other, under-zero}
 use Rattle.survivors.proofs.Arrivals.{Joined, join-used, join-owner, join-other, stack-less, join-shape}
@@ -19,6 +19,7 @@ put cs i top p m = set cs i (record { layer = top; heirs = 0; parent = p; refs =
 
 module _ {cs : List Cell} {free : List ℕ} {room base top width first : ℕ} {h : ℕ → ℕ} (t : Links cs free room base top width first h) (some : 0 < room) (p m : ℕ) (tiny : m < 32)
     (fresh : (x : ℕ) → x < 1024 → 0 < at cs x .refs → at cs x .layer ≡ top → at cs x .mode ≢ m) where
+  -- the free cell on top of the stack
   abbrev i : ℕ
   i = getD free (room - 1) 0
 
@@ -94,6 +95,7 @@ module _ {cs : List Cell} {free : List ℕ} {room base top width first : ℕ} {h
 
   -- under the cell p
   module _ (old : top ≢ base) (pb : p < 1024) (pu : 0 < at cs p .refs) (pl : at cs p .layer + 1 ≡ top) where
+    -- the cells with the new one, counted in p
     abbrev pub linked : List Cell
     linked = recount (put cs i top p m) p (at (put cs i top p m) p .refs + 1) (at (put cs i top p m) p .heirs + i)
 

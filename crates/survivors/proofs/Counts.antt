@@ -10,7 +10,7 @@ use lib.Dec.{ltb}
 use Rattle.std.proofs.shelf.Tests.{cases-eq, cases-lt, lt-ltb, le-ltb}
 use Rattle.viterbi.specs.Lists.{In, Distinct}
 use Rattle.survivors.specs.Sums.{tally}
-use Rattle.survivors.specs.Cells.{at, Shape}
+use Rattle.survivors.specs.Cells.{Shape, at}
 use Rattle.survivors.specs.declared.tree.Cell.{Cell}
 
 -- the layer and the mode of a cell

@@ -10,10 +10,10 @@ use lib.Dec.{eqb}
 use Rattle.std.proofs.shelf.Tests.{cases-eq, cases-lt, eq-eqb, ne-eqb}
 use Rattle.std.proofs.shelf.Lists.{length-push, getD-replicate, length-replicate}
 use Rattle.std.specs.declared.option.Option.the-variants.{None}
-use Rattle.survivors.specs.Cells.{at, share, under, one, place, path, Kept}
+use Rattle.survivors.specs.Cells.{Kept, at, one, path, place, share, under}
 use Rattle.survivors.specs.Ring.{Written}
 use Rattle.survivors.proofs.Rings.{written-push}
-use Rattle.survivors.specs.Trees.{tipOf, tipsOf, Real, Holds, Valid, Settling, held, pathOf, Tips, tipAt}
+use Rattle.survivors.specs.Trees.{Holds, Real, Settling, Tips, Valid, held, pathOf, tipAt, tipOf, tipsOf}
 use Rattle.survivors.specs.declared.tree.Cell.{Cell}
 use Rattle.survivors.specs.declared.tree.Tree.{Tree}
 use Rattle.survivors.proofs.Tallies.{tally-ge, tally-none}
@@ -42,6 +42,7 @@ pub held-none : (tips : List ℕ) (x : ℕ) → ((u : ℕ) → u < 32 → getD t
 held-none tips x off = tally-none (λ u. cond (eqb (getD tips u 0) x) 1 0) 32 (λ u l. rw (ne-eqb (getD tips u 0) x (off u l)) refl)
 
 module _ (s : Tree) (r : Valid s) (single : s .width ≡ 1) where
+  -- the links of the tree
   abbrev t : Holds s (held (tipsOf s))
   t = r .holds
 
@@ -54,6 +55,7 @@ module _ (s : Tree) (r : Valid s) (single : s .width ≡ 1) where
   pub deep : s .base < s .top
   deep = omega (arith, r .old (s .first) (top-root .here) (top-root .used), top-root .layer)
 
+  -- the cells without the root
   abbrev cs′ : List Cell
   cs′ = rootless t single
 
@@ -77,6 +79,7 @@ module _ (s : Tree) (r : Valid s) (single : s .width ≡ 1) where
 
   -- there are younger layers
   module _ (more : s .base + 1 ≢ s .top) where
+    -- the tree without the root
     abbrev pub next : Tree
     next = record { cells = cs′; free = set (s .free) (s .room) (s .first); tips = s .tips; room = s .room + 1; base = s .base + 1; top = s .top; width = at (s .cells) (s .first) .refs; first = at (s .cells) (s .first) .heirs; modes = s .modes }
 
@@ -106,6 +109,7 @@ module _ (s : Tree) (r : Valid s) (single : s .width ≡ 1) where
 
   -- this was the last layer
   module _ (last : s .base + 1 ≡ s .top) where
+    -- the tree without its only layer
     abbrev pub ended : Tree
     ended = record { cells = cs′; free = set (s .free) (s .room) (s .first); tips = replicate 32 None; room = s .room + 1; base = s .base + 1; top = s .top; width = 0; first = 0; modes = s .modes }
 
@@ -141,6 +145,7 @@ module _ (s : Tree) (r : Valid s) (single : s .width ≡ 1) where
 
 -- one more mode is decided
 module _ (o : Tree) (ring : List ℕ) (s : Tree) (ring′ : List ℕ) (g : Settling o ring s ring′) (long : length ring ≡ 4096) (single : s .width ≡ 1) where
+  -- the mode that is decided
   abbrev m : ℕ
   m = at (s .cells) (s .first) .mode
 

@@ -9,8 +9,8 @@ use lib.ListN.{length, getD, replicate}
 use lib.Dec.{ltb}
 use Rattle.std.proofs.shelf.Tests.{cases-lt}
 use Rattle.std.proofs.shelf.Lists.{getD-replicate}
-use Rattle.survivors.specs.Cells.{void, at, share, under, one, place, inUse, Stack, Links}
-use Rattle.survivors.specs.Trees.{tipsOf, Real, held, Tips, Cleared}
+use Rattle.survivors.specs.Cells.{Links, Stack, at, inUse, one, place, share, under, void}
+use Rattle.survivors.specs.Trees.{Cleared, Real, Tips, held, tipsOf}
 use Rattle.survivors.specs.declared.tree.Cell.{Cell}
 use Rattle.survivors.specs.declared.tree.Tree.{Tree}
 use Rattle.survivors.proofs.Tallies.{tally-none, tally-some}
@@ -61,13 +61,13 @@ empty s n z st re t few b p w i =
     }
 
 -- the stack that holds every cell
-pub full : (cs : List Cell) (free : List ℕ) → ((x : ℕ) → x < 1024 → at cs x .refs ≡ 0) → length free ≡ 1024 → ((k : ℕ) → k < 1024 → getD free k 0 ≡ k) → Stack cs free 1024
-full cs free z f k = record {
+pub full : (cs : List Cell) (free : List ℕ) (room : ℕ) → room ≡ 1024 → ((x : ℕ) → x < 1024 → at cs x .refs ≡ 0) → length free ≡ 1024 → ((k : ℕ) → k < 1024 → getD free k 0 ≡ k) → Stack cs free room
+full cs free room all z f k = record {
   span = f;
   live = omega (arith, idle cs z);
-  below = λ j l. rw (k j l) l;
-  empty = λ j l. rw (k j l) (z j l);
-  apart = λ j m l q e. let j′ : j < 1024 = omega arith in omega (arith, k j j′, k m q, e);
+  below = λ j l. let m : j < 1024 = omega arith in rw (k j m) m;
+  empty = λ j l. let m : j < 1024 = omega arith in rw (k j m) (z j m);
+  apart = λ j m l q e. let j′ : j < 1024 = omega arith in let m′ : m < 1024 = omega arith in omega (arith, k j j′, k m m′, e);
 }
 
 pub idle-cells : (x : ℕ) → x < 1024 → at (replicate 1024 void) x .refs ≡ 0

@@ -11,12 +11,13 @@ use Rattle.std.specs.declared.option.Option.{Option}
 use Rattle.std.specs.declared.option.Option.the-variants.{Some, None}
 use Rattle.survivors.specs.Cells.{at, path, plus}
 use Rattle.survivors.specs.Ring.{Written}
-use Rattle.survivors.specs.Trees.{tipOf, tipsOf, Holds, held, both, Valid, Tips, Shed, Settling, Apart, Ended, pathOf, tipAt}
+use Rattle.survivors.specs.Trees.{Apart, Ended, Holds, Settling, Shed, Tips, Valid, both, held, pathOf, tipAt, tipOf, tipsOf}
 use Rattle.survivors.specs.declared.tree.Tree.{Tree}
 use Rattle.survivors.proofs.Tips.{tree-held, held-set, real-set, off, plus-nil, tips-set}
 use Rattle.survivors.proofs.Decides.{held-none}
 use Rattle.survivors.proofs.Sprouts.{tip-used, path-frame}
 
+-- no references
 abbrev nil : ℕ → ℕ
 nil x = 0
 
@@ -47,9 +48,11 @@ module _ (s : Tree) (r : Valid s) (best : ℕ) (l : best < s .modes) (tipped′ 
   shed-tips = subst (λ (z : List ℕ). Tips z (s .modes)) (sym cut) (tips-set (tipsOf s) (s .modes) best 1024 (r .tips) l (r .few) (omega arith))
 
   module _ (t : Tree) (d : Shed (tipped s (set (s .tips) best None)) t) (tip : Option ℕ) (te : tipOf tip ≡ tipAt s best) (tr : (c : ℕ) → tip ≡ Some c → c < 1024) where
+    -- the tips with best's alone
     abbrev raw : List (Option ℕ)
     raw = set (t .tips) best tip
 
+    -- the same as numbers
     abbrev alone : List ℕ
     alone = map tipOf raw
 

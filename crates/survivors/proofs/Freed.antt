@@ -10,7 +10,7 @@ use lib.Dec.{ltb}
 use Rattle.std.proofs.shelf.Tests.{cases-eq, lt-ltb}
 use Rattle.std.proofs.shelf.Lists.{length-set, getD-set-same, getD-set-other}
 use Rattle.survivors.specs.Sums.{tally}
-use Rattle.survivors.specs.Cells.{at, owner, share, under, inUse, Stack, Same, Kept}
+use Rattle.survivors.specs.Cells.{Kept, Same, Stack, at, inUse, owner, share, under}
 use Rattle.survivors.specs.declared.tree.Cell.{Cell}
 use Rattle.survivors.proofs.Tallies.{tally-change}
 use Rattle.survivors.proofs.Shares.{share-same, share-none, share-mine, share-not}

@@ -10,11 +10,11 @@ use Rattle.std.specs.Options.{isSome}
 use Rattle.std.specs.declared.option.Option.{Option}
 use Rattle.std.specs.declared.option.Option.the-variants.{None, Some}
 use Rattle.std.proofs.shelf.Tests.{cases-lt}
-use Rattle.std.proofs.shelf.Lists.{length-map, getD-map, getD-past}
+use Rattle.std.proofs.shelf.Lists.{length-map, getD-map, getD-past, nil-from-length}
 use Rattle.viterbi.specs.Lists.{In, Counted, EndsIn}
 use Rattle.survivors.specs.Cells.{at, path}
-use Rattle.survivors.specs.Trees.{Valid, tipOf, tipsOf, tipAt}
-use Rattle.survivors.specs.Survivors.{taken, decided, HasTip, pathTo, OnPath}
+use Rattle.survivors.specs.Trees.{Valid, tipAt, tipOf, tipsOf}
+use Rattle.survivors.specs.Survivors.{HasTip, OnPath, decided, pathTo, taken}
 use Rattle.survivors.specs.declared.tree.Tree.{Tree}
 use Rattle.survivors.specs.declared.Survivors.{Survivors}
 use Rattle.survivors.proofs.Props.{valid-of}
@@ -87,6 +87,10 @@ some-tip s l = ⊎-elim
 pub pathTo-length : (s : Survivors) (u : ℕ) → length (pathTo s u) ≡ taken s - decided s
 pathTo-length s u = path-length (s .tree .cells) (taken s - decided s) (tipAt (s .tree) u)
 
+-- so a path is empty where all is decided
+pub pathTo-none : (s : Survivors) (u : ℕ) → taken s ≤ decided s → pathTo s u ≡ []
+pathTo-none s u l = nil-from-length (pathTo s u) (omega (arith, pathTo-length s u))
+
 -- the path to u ends in u
 pub pathTo-ends : (s : Survivors) (u : ℕ) → HasTip s u → EndsIn (pathTo s u) u
 pathTo-ends s u h =
@@ -98,8 +102,8 @@ pathTo-ends s u h =
     (path cs n (at cs c .parent), ap (λ (k : ℕ). path cs k c) e ∙ ap (λ (y : ℕ). path cs n (at cs c .parent) ++ y ∷ []) m)
 
 -- the cells that are not free are the live ones
-pub live-cells : (s : Survivors) → Counted (OnPath s) (1024 - s .tree .room)
-live-cells s =
+pub live-cells : (s : Survivors) (n : ℕ) → s .tree .room + n ≡ 1024 → Counted (OnPath s) n
+live-cells s n e =
     let cs = s .tree .cells in
     let r = valid s in
     record {
@@ -111,8 +115,8 @@ live-cells s =
           let x = at-place (s .tree) r (i - decided s) u (tip-below s u (o .tip)) (tip-cell (s .tree) r u (o .tip)) (omega (arith, o .undecided, o .inside)) in
           let a : at cs (x .0) .layer ≡ i = omega (arith, x .3, o .undecided) in
           let b : at cs (x .0) .mode ≡ m = sym (x .4) ∙ o .lies in
-          let e : spot cs (x .0) ≡ (i, m) = cc (a, b) in
-          subst (λ (z : ℕ × ℕ). In z (spots cs 1024)) e (spots-all cs 1024 (x .0) (x .1) (x .2));
+          let q : spot cs (x .0) ≡ (i, m) = cc (a, b) in
+          subst (λ (z : ℕ × ℕ). In z (spots cs 1024)) q (spots-all cs 1024 (x .0) (x .1) (x .2));
       only = λ i m h.
           let x = spots-only cs 1024 (i, m) h in
           let a : i ≡ at cs (x .0) .layer = ap (λ (z : ℕ × ℕ). z .0) (x .3) in
@@ -130,4 +134,6 @@ live-cells s =
 
 -- free and live cells are 1,024 together
 pub room-live : (s : Survivors) (n : ℕ) → Counted (OnPath s) n → s .tree .room + n ≡ 1024
-room-live s n k = omega (arith, counted-one (OnPath s) n (1024 - s .tree .room) k (live-cells s), valid s .holds .stack .live)
+room-live s n k =
+    let full = valid s .holds .stack .live in
+    omega (arith, counted-one (OnPath s) n (1024 - s .tree .room) k (live-cells s (1024 - s .tree .room) (omega (arith, full))), full)

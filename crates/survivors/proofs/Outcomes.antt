@@ -11,13 +11,13 @@ use Rattle.std.proofs.shelf.Tests.{cases-lt}
 use Rattle.std.proofs.shelf.Lists.{length-map, getD-map, getD-past, nil-from-length}
 use Rattle.viterbi.specs.Lists.{Begins, Counted, Shared}
 use Rattle.survivors.specs.Ring.{Written}
-use Rattle.survivors.specs.Trees.{Apart, Cleared, Ended, Layered, Next, Settling, Valid, chosen, fromOf, tipOf, tipsOf, tipAt}
+use Rattle.survivors.specs.Trees.{Apart, Cleared, Ended, Layered, Next, Settling, Valid, chosen, fromOf, tipAt, tipOf, tipsOf}
 use Rattle.survivors.specs.Survivors.{Blank, Finished, Grown, HasTip, MayGrow, OnPath, PathOf, Settled, decided, pathTo, taken}
 use Rattle.survivors.specs.declared.Survivors.{Survivors}
 use Rattle.survivors.proofs.Lists.{before-fork}
 use Rattle.survivors.proofs.Rings.{written-none}
 use Rattle.survivors.proofs.Sprouts.{from-some, from-none}
-use Rattle.survivors.proofs.Laws.{valid, tip-mode, tip-cell, cell-tip, tip-below, some-tip, decided-taken, pathTo-length, room-live}
+use Rattle.survivors.proofs.Laws.{valid, tip-mode, tip-cell, cell-tip, tip-below, some-tip, decided-taken, pathTo-none, room-live}
 
 -- a choice that is given stands in the list
 given : (preds : List (Option ℕ)) (u p : ℕ) → getD preds u None ≡ Some p → u < length preds
@@ -104,8 +104,7 @@ module _ (s : Survivors) (ring : List ℕ) (t : Survivors) (ring′ : List ℕ) 
       (λ (l : decided s < taken s).
       let f = some-tip s l in
       let b = h .begins (pathTo s (f .0)) (f .0, f .1, refl) in
-      let none : pathTo t (f .0) ≡ [] = nil-from-length (pathTo t (f .0)) (omega (arith, pathTo-length t (f .0))) in
-      (b .0, sym (append-nil (g .out)) ∙ ap (λ (z : List ℕ). g .out ++ z) (sym none) ∙ sym (on (f .0) (f .1)) ∙ b .1))
+      (b .0, sym (append-nil (g .out)) ∙ ap (λ (z : List ℕ). g .out ++ z) (sym (pathTo-none t (f .0) d)) ∙ sym (on (f .0) (f .1)) ∙ b .1))
       (λ (l : taken s ≤ decided s). (g .out, sym (ap (λ (z : List ℕ). z ++ g .out) (nil-from-length e (omega (arith, h .within))))))
       (cases-lt (decided s) (taken s))
 
@@ -146,7 +145,7 @@ finished-none s best ring l =
     record {
       none-taken = refl;
       all-decided = e;
-      written = subst (λ (z : List ℕ). Written ring (decided s) z ring) (sym (nil-from-length (pathTo s best) (omega (arith, pathTo-length s best)))) (written-none ring (decided s));
+      written = subst (λ (z : List ℕ). Written ring (decided s) z ring) (sym (pathTo-none s best l)) (written-none ring (decided s));
       no-tip = no-tips s (valid s) e;
       no-live = no-live s (no-tips s (valid s) e);
     }

@@ -9,8 +9,8 @@ use lib.ListN.{length, getD}
 use lib.Dec.{eqb}
 use Rattle.std.proofs.shelf.Tests.{cases-eq, cases-lt, ne-eqb}
 use Rattle.std.proofs.shelf.Lists.{length-push, getD-push, getD-append-left}
-use Rattle.survivors.specs.Cells.{at, path, owner, share, under, one}
-use Rattle.survivors.specs.Trees.{tipsOf, held, Valid, Apart, pathOf, tipAt}
+use Rattle.survivors.specs.Cells.{at, one, owner, path, share, under}
+use Rattle.survivors.specs.Trees.{Apart, Valid, held, pathOf, tipAt, tipsOf}
 use Rattle.survivors.specs.declared.tree.Cell.{Cell}
 use Rattle.survivors.specs.declared.tree.Tree.{Tree}
 use Rattle.survivors.proofs.Tallies.{tally-ge, tally-some, tally-pair}
@@ -50,6 +50,13 @@ path-at cs (suc n) j c l =
     ∙ sym (ap (λ (k : ℕ). at cs (above cs k c) .mode) z))
     (cases-eq j (suc n))
 
+-- the mode that a path has at a place is that of the cell so many layers above its end
+path-read : (cs : List Cell) (d n j c x : ℕ) → d ≡ suc n → j < suc n → above cs (n - j) c ≡ x → getD (path cs d c) j 0 ≡ at cs x .mode
+path-read cs d n j c x e l q = ap (λ (k : ℕ). getD (path cs k c) j 0) e ∙ path-at cs n j c l ∙ ap (λ (y : ℕ). at cs y .mode) q
+
+above-one : (cs : List Cell) (a b p : ℕ) → a ≡ b → at cs b .parent ≡ p → at cs a .parent ≡ p
+above-one cs a b p e q = ap (λ (z : ℕ). at cs z .parent) e ∙ q
+
 -- a tip, or none
 pub find : (tips : List ℕ) (n : ℕ) → ((u : ℕ) × (u < n) × (getD tips u 0 < 1024)) ⊎ ((u : ℕ) → u < n → 1024 ≤ getD tips u 0)
 find tips zero = inr (λ u l. absurd (omega arith))
@@ -62,6 +69,7 @@ find tips (suc n) = ⊎-elim
     (cases-lt (getD tips n 0) 1024)
 
 module _ (s : Tree) (r : Valid s) where
+  -- the cells
   abbrev cs : List Cell
   cs = s .cells
 
@@ -119,7 +127,7 @@ module _ (s : Tree) (r : Valid s) where
       (λ (h : held (tipsOf s) x ≤ 0).
       let y = kid x l (omega (arith, r .holds .count x l)) in
       let i = on-path k (y .0) (y .1) (y .2) (omega (arith, y .4)) in
-      (i .0, i .1, i .2, ap (λ (z : ℕ). at cs z .parent) (i .3) ∙ y .3))
+      (i .0, i .1, i .2, above-one cs (above cs k (tipAt s (i .0))) (y .0) x (i .3) (y .3)))
       (cases-lt 0 (held (tipsOf s) x))
 
   -- what a cell in use is on the path of some mode
@@ -133,9 +141,7 @@ module _ (s : Tree) (r : Valid s) where
         p .0,
         p .1,
         p .2,
-        ap (λ (d : ℕ). getD (path cs d (tipAt s (p .0))) j 0) z
-            ∙ path-at cs n j (tipAt s (p .0)) jl
-            ∙ ap (λ (y : ℕ). at cs y .mode) (p .3),
+        path-read cs (s .top - s .base) n j (tipAt s (p .0)) x z jl (p .3),
       )
 
   -- and what is on the path of a mode is a cell in use
@@ -149,8 +155,24 @@ module _ (s : Tree) (r : Valid s) where
         a .0,
         a .1,
         a .2,
-        ap (λ (d : ℕ). getD (path cs d (tipAt s u)) j 0) z ∙ path-at cs n j (tipAt s u) jl,
+        path-read cs (s .top - s .base) n j (tipAt s u) (above cs (n - j) (tipAt s u)) z jl refl,
       )
+
+  -- two cells of the oldest layer lie on paths that part there
+  two-roots : (x y : ℕ) → x < 1024 → y < 1024 → x ≢ y → 0 < at cs x .refs → 0 < at cs y .refs → at cs x .layer ≡ s .base → at cs y .layer ≡ s .base → Apart s
+  two-roots x y xl yl ne xu yu xb yb =
+      let a = on-place 0 x xl xu (omega arith) in
+      let b = on-place 0 y yl yu (omega arith) in
+      let same : (m n : ℕ) → m ≡ at cs x .mode → n ≡ at cs y .mode → m ≡ n → ⊥ = λ m n p q e. ne (r .holds .shape .lone x y xl yl xu yu (xb ∙ sym yb) (sym p ∙ e ∙ q)) in
+      record {
+        u = a .0;
+        v = b .0;
+        ul = a .1;
+        vl = b .1;
+        utip = a .2;
+        vtip = b .2;
+        differ = same (getD (pathOf s (a .0)) 0 0) (getD (pathOf s (b .0)) 0 0) (a .3) (b .3);
+      }
 
   -- where the oldest layer has not one cell, two paths part
   pub parted : s .width ≢ 1 → s .base < s .top → Apart s
@@ -164,18 +186,4 @@ module _ (s : Tree) (r : Valid s) where
       let xl : p .0 < 1024 = omega (arith, p .2, p .3) in
       let sx = seen t 1024 (p .0) (p .4) in
       let sy = seen t 1024 (p .1) (p .5) in
-      let lx = oldest-by t (p .0) xl (sx .0) (sx .1) in
-      let ly = oldest-by t (p .1) (p .3) (sy .0) (sy .1) in
-      let ox = on-place 0 (p .0) xl (sx .0) (omega (arith, lx)) in
-      let oy = on-place 0 (p .1) (p .3) (sy .0) (omega (arith, ly)) in
-      record {
-        u = ox .0;
-        v = oy .0;
-        ul = ox .1;
-        vl = oy .1;
-        utip = ox .2;
-        vtip = oy .2;
-        differ = λ q.
-            let same : p .0 ≡ p .1 = t .shape .lone (p .0) (p .1) xl (p .3) (sx .0) (sy .0) (lx ∙ sym ly) (sym (ox .3) ∙ q ∙ oy .3) in
-            omega (arith, p .2, same);
-      }
+      two-roots (p .0) (p .1) xl (p .3) (λ e. omega (arith, p .2, e)) (sx .0) (sy .0) (oldest-by t (p .0) xl (sx .0) (sx .1)) (oldest-by t (p .1) (p .3) (sy .0) (sy .1))

@@ -8,8 +8,8 @@ use mathlib.Core.Logic.{_≢_, ∥∥₁-elim}
 use mathlib.Core.List.{List}
 use Prim.Native.Nat.{ℕ, _+_, _<_, _≤_}
 use lib.ListN.{length, getD}
-use Rattle.survivors.specs.Cells.{at, under, one, place, inUse, Shape, Stack, Links}
-use Rattle.survivors.specs.Trees.{tipsOf, Real, Holds, held, Valid, Tips, tipAt}
+use Rattle.survivors.specs.Cells.{Links, Shape, Stack, at, inUse, one, place, under}
+use Rattle.survivors.specs.Trees.{Holds, Real, Tips, Valid, held, tipAt, tipsOf}
 use Rattle.survivors.specs.declared.tree.Cell.{Cell}
 use Rattle.survivors.specs.declared.tree.Tree.{Tree}
 

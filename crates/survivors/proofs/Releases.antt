@@ -9,7 +9,7 @@ use lib.ListN.{length, getD, set}
 use lib.Dec.{ltb}
 use Rattle.std.proofs.shelf.Tests.{cases-eq, lt-ltb}
 use Rattle.std.proofs.shelf.Lists.{length-set}
-use Rattle.survivors.specs.Cells.{at, owner, share, under, one, place, inUse, plus, recount, Links, Same, Kept}
+use Rattle.survivors.specs.Cells.{Kept, Links, Same, at, inUse, one, owner, place, plus, recount, share, under}
 use Rattle.survivors.specs.declared.tree.Cell.{Cell}
 use Rattle.survivors.proofs.Tallies.{tally-same, tally-ge}
 use Rattle.survivors.proofs.Shares.{recount-other, recount-refs, recount-heirs, recount-same, same-same, shape-kept, share-same, owner-oldest, owner-parent, plus-here, plus-other}

@@ -7,7 +7,7 @@ use native.Mathlib.Omega.{arith}
 use lib.ListN.{length, set}
 use Rattle.std.proofs.shelf.Tests.{cases-eq, cases-lt}
 use Rattle.std.proofs.shelf.Lists.{length-set}
-use Rattle.survivors.specs.Cells.{at, owner, share, under, one, place, recount, path, Links, Kept}
+use Rattle.survivors.specs.Cells.{Kept, Links, at, one, owner, path, place, recount, share, under}
 use Rattle.survivors.specs.declared.tree.Cell.{Cell}
 use Rattle.survivors.proofs.Tallies.{tally-same, tally-two, tally-some, tally-only, tally-none}
 use Rattle.survivors.proofs.Shares.{recount-other, recount-refs, recount-same, share-none, share-mine, share-not, share-zero, owner-oldest, owner-parent, owner-used}

@@ -9,7 +9,7 @@ use lib.ListN.{length}
 use lib.Dec.{eqb, ltb}
 use Rattle.std.proofs.shelf.Tests.{cases-eq, lt-ltb, eq-eqb, ne-eqb}
 use Rattle.std.proofs.shelf.Lists.{getD-set-same, getD-set-other}
-use Rattle.survivors.specs.Cells.{void, at, owner, share, under, one, place, plus, recount, Shape, Same, Kept}
+use Rattle.survivors.specs.Cells.{Kept, Same, Shape, at, one, owner, place, plus, recount, share, under, void}
 use Rattle.survivors.specs.declared.tree.Cell.{Cell}
 use Rattle.survivors.proofs.Tallies.{tally-ge, tally-none, tally-bound}
 

@@ -9,8 +9,8 @@ use native.Mathlib.Omega.{arith}
 use lib.ListN.{length, getD, set}
 use Rattle.std.proofs.shelf.Tests.{cases-eq, cases-lt}
 use Rattle.std.proofs.shelf.Lists.{getD-set-same, getD-set-other, getD-map}
-use Rattle.survivors.specs.Cells.{at, path, owner, under, one}
-use Rattle.survivors.specs.Trees.{tipOf, tipsOf, Real, chosen, fromOf, Holds, held, both, Valid, Tips, Attached, Ready, Next, Sprout, Shed, Layered, pathOf, tipAt}
+use Rattle.survivors.specs.Cells.{at, one, owner, path, under}
+use Rattle.survivors.specs.Trees.{Attached, Holds, Layered, Next, Ready, Real, Shed, Sprout, Tips, Valid, both, chosen, fromOf, held, pathOf, tipAt, tipOf, tipsOf}
 use Rattle.survivors.specs.declared.tree.Cell.{Cell}
 use Rattle.survivors.specs.declared.tree.Tree.{Tree}
 use Rattle.survivors.proofs.Shares.{owner-parent, owner-used}
@@ -62,6 +62,7 @@ module _ (o : Tree) (preds : List ℕ) (x : Next o preds) (n : ℕ) (s : Tree) (
           (cases-eq u n)
 
   module _ (near : getD preds n 0 < 32) where
+    -- the cell that the mode n goes on from
     abbrev p : ℕ
     p = tipAt s (getD preds n 0)
 
@@ -184,9 +185,11 @@ holding o preds n s new g = tree-held (λ y yl. omega (arith, ap (λ (z : List �
 
 -- the tree after `grow`
 module _ (o : Tree) (preds : List ℕ) (x : Next o preds) (s : Tree) (raw : List (Option ℕ)) (g : Sprout o preds (length preds) s (map tipOf raw)) (t : Tree) (d : Shed s t) (real : Real raw) (k : ℕ) (wide : k ≡ length preds) where
+  -- the new tips as numbers
   abbrev new : List ℕ
   new = map tipOf raw
 
+  -- the tree with the new tips
   abbrev pub fresh : Tree
   fresh = record { cells = t .cells; free = t .free; tips = raw; room = t .room; base = t .base; top = t .top + 1; width = t .width; first = t .first; modes = k }
 

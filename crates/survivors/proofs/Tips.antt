@@ -12,8 +12,8 @@ use Rattle.std.proofs.shelf.Lists.{length-set, getD-set-same, getD-set-other, m
 use Rattle.std.specs.declared.option.Option.{Option}
 use Rattle.std.specs.declared.option.Option.the-variants.{Some, None}
 use Rattle.survivors.specs.Sums.{tally}
-use Rattle.survivors.specs.Cells.{plus, Links, Kept}
-use Rattle.survivors.specs.Trees.{tipOf, tipsOf, Real, Holds, held, both, Tips, Released, Shed, tipAt}
+use Rattle.survivors.specs.Cells.{Kept, Links, plus}
+use Rattle.survivors.specs.Trees.{Holds, Real, Released, Shed, Tips, both, held, tipAt, tipOf, tipsOf}
 use Rattle.survivors.specs.declared.tree.Cell.{Cell}
 use Rattle.survivors.specs.declared.tree.Tree.{Tree}
 use Rattle.survivors.proofs.Tallies.{tally-change, tally-ge, tally-bound}

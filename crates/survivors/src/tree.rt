@@ -4,7 +4,7 @@ ghost use Prim.Native.Nat.{ℕ, _<_, _≤_};
 ghost use lib.ListN.{length, getD};
 ghost use Rattle.std.specs.declared.option.Option.the-variants.{None, Some};
 ghost use Rattle.survivors.specs.Cells.{plus};
-ghost use Rattle.survivors.specs.Trees.{Apart, Attached, Cleared, Ended, Layered, Holds, Next, Ready, Real, Released, Settling, Shed, Sprout, Tips, Valid, both, chosen, tipAt, tipOf, tipsOf};
+ghost use Rattle.survivors.specs.Trees.{Apart, Attached, Cleared, Ended, Holds, Layered, Next, Ready, Real, Released, Settling, Shed, Sprout, Tips, Valid, both, chosen, tipAt, tipOf, tipsOf};
 
 /// A mode at a reading, on the path of some tip.
 #[derive(Clone, Copy)]

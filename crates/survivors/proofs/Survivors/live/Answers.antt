@@ -6,4 +6,4 @@ pub sub-result : need.sub-result
 sub-result c = omega (arith, valid (c .args .self .now) .holds .stack .live)
 
 pub returns : need.returns
-returns c = live-cells (c .args .self .now)
+returns c = live-cells (c .args .self .now) _ (omega (arith, valid (c .args .self .now) .holds .stack .live))

@@ -1,12 +1,11 @@
 use mathlib.Core.Path.{_≡_, refl}
-use mathlib.Core.List.{List, [], _∷_}
-use Prim.Native.Nat.{ℕ, zero, suc, _+_, _<_, _≤_}
+use mathlib.Core.List.{[], _∷_}
+use Prim.Native.Nat.{ℕ, zero, suc, _<_, _≤_}
 use native.Mathlib.Omega.{arith}
-use lib.ListN.{length, getD}
-use Rattle.std.specs.declared.option.Option.{Option}
+use lib.ListN.{getD}
 use Rattle.std.specs.declared.option.Option.the-variants.{None, Some}
 use Rattle.viterbi.specs.Lists.{Counted}
-use Rattle.survivors.specs.Survivors.{HasTip, MayGrow, Grown, Settled, OnPath, decided, taken}
+use Rattle.survivors.specs.Survivors.{Grown, HasTip, MayGrow, OnPath, decided, taken}
 use Rattle.survivors.specs.declared.Survivors.{Survivors}
 use Rattle.survivors.proofs.tests.Log.read.Needs as need
 

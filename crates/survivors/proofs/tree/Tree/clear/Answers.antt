@@ -1,6 +1,5 @@
-use mathlib.Core.Path.{refl}
 use native.Mathlib.Omega.{arith}
-use Rattle.survivors.specs.Trees.{Holds, held, both, tipsOf}
+use Rattle.survivors.specs.Trees.{Holds, both, held, tipsOf}
 use Rattle.survivors.specs.declared.tree.Tree.{Tree}
 use Rattle.survivors.proofs.Tips.{tree-held}
 use Rattle.survivors.proofs.Empties.{empty, bare-cells}
@@ -16,4 +15,4 @@ pub returns : need.returns
 returns c =
     let t = c .shed .last .self in
     let h = c .shed .ensures .holds (λ _. 0) (loose (c .args .self .now) (c .pre .holds)) in
-    empty _ (h .size) (bare-cells h) (h .stack) (c .shed .ensures .real) (c .shed .ensures .tips) (omega (arith, c .shed .ensures .modes, c .pre .few)) refl refl refl refl
+    empty _ (h .size) (bare-cells h) (h .stack) (c .shed .ensures .real) (c .shed .ensures .tips) (omega (arith, c .shed .ensures .modes, c .pre .few)) (omega arith) (omega arith) (omega arith) (omega arith)

@@ -4,7 +4,7 @@ use native.Mathlib.Omega.{arith}
 use lib.ListN.{getD, length}
 use Rattle.std.specs.declared.option.Option.the-variants.{None}
 use Rattle.std.proofs.shelf.Lists.{getD-map, length-map}
-use Rattle.survivors.specs.Trees.{tipOf, Valid}
+use Rattle.survivors.specs.Trees.{Valid, tipOf}
 use Rattle.survivors.specs.declared.tree.Tree.{Tree}
 use Rattle.survivors.proofs.Tips.{real-set}
 use Rattle.survivors.proofs.Finishes.{shed-by, shed-tips, alone-valid, finished}

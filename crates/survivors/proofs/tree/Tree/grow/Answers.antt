@@ -3,7 +3,7 @@ use mathlib.Core.List.{List, map}
 use Prim.Native.Nat.{ℕ}
 use native.Mathlib.Omega.{arith}
 use lib.ListN.{length}
-use Rattle.survivors.specs.Trees.{Real, held, chosen, fromOf, tipOf, tipsOf, Tips}
+use Rattle.survivors.specs.Trees.{Real, Tips, chosen, fromOf, held, tipOf, tipsOf}
 use Rattle.std.proofs.shelf.Lists.{length-map}
 use Rattle.survivors.proofs.Decides.{blank-tips, no-tips}
 use Rattle.survivors.specs.declared.tree.Tree.{Tree}

@@ -24,4 +24,4 @@ loop-i-again c =
 
 pub returns : need.returns
 returns c =
-    empty _ (length-replicate 1024 void) idle-cells (full (replicate 1024 void) (c .loop-i .free) idle-cells (c .loop-i .inv .0) (λ k l. c .loop-i .inv .1 k (omega arith))) (no-tips 32) blank-tips (omega arith) refl refl refl refl
+    empty _ (length-replicate 1024 void) idle-cells (full (replicate 1024 void) (c .loop-i .free) _ (omega arith) idle-cells (c .loop-i .inv .0) (λ k l. c .loop-i .inv .1 k (omega arith))) (no-tips 32) blank-tips (omega arith) (omega arith) (omega arith) (omega arith) (omega arith)

@@ -1,6 +1,6 @@
 use mathlib.Core.Path.{_≡_}
 use Prim.Native.Nat.{ℕ, _<_}
-use Rattle.survivors.specs.Cells.{at, plus, Kept}
+use Rattle.survivors.specs.Cells.{Kept, at, plus}
 use Rattle.survivors.specs.Trees.{Holds}
 use Rattle.survivors.proofs.tree.Tree.release.Given as given
 

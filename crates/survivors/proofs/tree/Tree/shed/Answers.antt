@@ -1,7 +1,7 @@
 use mathlib.Core.Path.{_≡_, sym, subst}
 use Prim.Native.Nat.{ℕ, _+_, _<_, _≤_}
 use native.Mathlib.Omega.{arith}
-use Rattle.survivors.specs.Trees.{both, Holds, Released, tipsOf, tipAt}
+use Rattle.survivors.specs.Trees.{Holds, Released, both, tipAt, tipsOf}
 use Rattle.survivors.specs.Cells.{plus}
 use Rattle.survivors.specs.declared.tree.Tree.{Tree}
 use lib.ListN.{set, length}

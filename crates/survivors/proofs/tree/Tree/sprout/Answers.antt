@@ -6,7 +6,7 @@ use lib.ListN.{set, length, getD}
 use Rattle.std.specs.declared.option.Option.{Option}
 use Rattle.std.specs.declared.option.Option.the-variants.{Some, None}
 use Rattle.std.proofs.shelf.Lists.{length-map, map-set}
-use Rattle.survivors.specs.Trees.{Attached, Ready, Next, Real, both, chosen, fromOf, held, tipOf, tipsOf, Sprout, tipAt}
+use Rattle.survivors.specs.Trees.{Attached, Next, Ready, Real, Sprout, both, chosen, fromOf, held, tipAt, tipOf, tipsOf}
 use Rattle.survivors.specs.declared.tree.Tree.{Tree}
 use Rattle.survivors.proofs.Tips.{real-set}
 use Rattle.survivors.proofs.Sprouts.{sprout-none, skip, ready, grown, from-some, from-none}
