@@ -1,0 +1,4 @@
+mod Longest
+mod Places
+mod Standing
+mod Stepping

@@ -1,11 +1,13 @@
 -- What the decoder stands for.
 use mathlib.Core.Path.{_≡_}
-use mathlib.Core.Bool.{Bool}
+use mathlib.Core.Bool.{Bool, true}
 use mathlib.Core.List.{List, [], _∷_, _++_}
 use mathlib.Core.Logic.{_↔_}
 use Prim.Native.Nat.{ℕ, _+_, _%_, _≤_, _<_}
 use lib.ListN.{length, getD}
+use Rattle.std.specs.Options.{isSome}
 use Rattle.std.specs.declared.option.Option.{Option}
+use Rattle.std.specs.declared.option.Option.the-variants.{Some}
 use Rattle.std.specs.declared.result.Result.{Result}
 use Rattle.std.specs.declared.result.Result.the-variants.{Ok, Err}
 use Rattle.fault.specs.declared.Fault.{Fault}
@@ -36,6 +38,11 @@ PLACES = 4096
 abbrev pub InRing : List ℕ → List ℕ → Type 0
 InRing d ring = (i : ℕ) → i < length d → length d ≤ i + PLACES → getD ring (i % PLACES) 0 ≡ getD d i 0
 
+-- No reading is taken, and there are n modes.
+pub record Fresh (n : ℕ) (d : Decoder) : Type 0 where
+  pub modes : d .rows .modes ≡ n
+  pub tree : tree.Blank (d .tree)
+
 module _ (K : Kind) (M : Meaning) where
   -- The row holds the totals of the modes; before the first reading there are none.
   abbrev pub Totalled : Log → List (Option Total) → Type 0
@@ -47,6 +54,8 @@ module _ (K : Kind) (M : Meaning) where
     pub modes : d .rows .modes ≡ M .modes
     pub many : taken (d .tree) ≡ length xs
     pub short : length xs ≤ READINGS
+    -- after a reading some mode is reachable
+    pub some : 0 < length xs → (t : ℕ) × Reachable K M xs t
     -- each reachable mode has the total of its cheapest path, and no other mode has one
     pub totals : Totalled xs (present (d .rows))
     -- the modes that are decided are those that were settled, and stand in the ring
@@ -80,6 +89,19 @@ module _ (K : Kind) (M : Meaning) where
   -- No mode would be reachable after one more reading r.
   abbrev pub Stuck : Log → Reading → Type 0
   Stuck xs r = (t : ℕ) → Reachable K M (xs ++ r ∷ []) t → ⊥
+
+  -- The row after one more reading, with predecessors and whether a mode is reachable.
+  abbrev pub Goes : Log → Reading → List (Option Total) → List (Option ℕ) → Bool → Type 0
+  Goes [] r row from any = First K M r row from any
+  Goes (x ∷ xs) r row from any = Next K M (x ∷ xs) r row from any
+
+  -- From the totals of n modes after m readings, the next row is right.
+  abbrev pub Advanced : ℕ → ℕ → List (Option Total) → Reading → List (Option Total) → List (Option ℕ) → Bool → Type 0
+  Advanced n m old r row from any = (xs : Log) → length xs ≡ m → length xs < READINGS → n ≡ M .modes → Totalled xs old → Goes xs r row from any
+
+-- Every predecessor is a mode below n, which has a total where a reading was taken before.
+abbrev pub BackedAfter : ℕ → ℕ → List (Option Total) → List (Option ℕ) → Type 0
+BackedAfter m n old from = (t s : ℕ) → t < n → rows.fromAt from t ≡ Some s → (s < n) × (0 < m → isSome (rows.totalAt old s) ≡ true)
 
 -- Tree, ring and present row are as they were.
 pub record Unchanged (d e : Decoder) : Type 0 where

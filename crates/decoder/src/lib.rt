@@ -2,6 +2,7 @@
 ghost use Rattle.decoder.specs.Linked.{Linked};
 
 mod calls;
+mod row;
 
 use survivors::Survivors;
 use trellis::Rows;
