@@ -1,21 +1,19 @@
 -- How the decoder comes to stand after one more reading.
 use mathlib.Core.Path.{_≡_, refl, sym, _∙_, ap, subst}
-use mathlib.Core.Bool.{true}
 use mathlib.Core.List.{List, [], _∷_, _++_}
 use mathlib.Core.Logic.{_↔_, ⊎-elim}
 use Prim.Native.Nat.{ℕ, _+_, _-_, _≤_, _<_}
 use native.Mathlib.Omega.{arith}
 use lib.ListN.{length, getD, take}
-use Rattle.std.specs.Options.{isSome}
 use Rattle.std.specs.declared.option.Option.{Option}
 use Rattle.std.specs.declared.option.Option.the-variants.{Some, None}
 use Rattle.std.proofs.shelf.Tests.{cases-lt}
-use Rattle.std.proofs.shelf.Lists.{append-assoc, append-nil, length-append, length-push, length-take, getD-append-right, getD-take, getD-past, nil-from-length, same-from-push}
+use Rattle.std.proofs.shelf.Lists.{append-assoc, length-append, length-push, length-take, getD-append-right, getD-take, getD-past, nil-from-length, same-from-push}
 use Rattle.cost.specs.declared.charge.Total.{Total}
 use Rattle.cost.specs.Kind.{Kind}
 use Rattle.model.specs.Meaning.{Meaning}
 use Rattle.viterbi.specs.Lists.{Counted}
-use Rattle.viterbi.specs.Paths.{Reading, Log, cost, Reachable, CheapestTo, Survivor, Decided, Cell, LiveCell, Live}
+use Rattle.viterbi.specs.Paths.{Reading, Log, cost, Reachable, CheapestTo, Survivor, Decided, LiveCell, Live}
 use Rattle.viterbi.specs.Algorithm.{Kept}
 use Rattle.viterbi.proofs.Steps.{not-none, some-same, split-then}
 use Rattle.viterbi.proofs.Algorithm.{end-below}
@@ -145,15 +143,15 @@ module _ (K : Kind) (M : Meaning) where
       decided-now =
           let u = some-tip t (omega (arith, decided-taken (e .tree), g .one-more, g .none-decided)) in
           longest-behind (PathOf t) (Survivor K M long) d
-              (λ p k. (pathTo t (k .0), (k .0, tip-of (k .0) (p, k .1, k .2 .is-open, k .2 .ends), refl), grown-path (k .0) p (k .1) (k .2)))
-              (λ q k. let h = exists K M long (k .0) (reach-of (k .0) (k .1)) in subst (Survivor K M long) (grown-path (k .0) (h .0) (h .1) (h .2) ∙ ap (λ z. d ++ z) (sym (k .2))) (k .0, h .1, h .2))
-              (taken t - tree.decided t)
-              (length long)
-              (omega (arith, many-now, decided-taken t, g .none-decided, s .settled))
-              (w .out)
-              (pathTo t (u .0))
-              (u .0, u .1, refl)
-              (w .longest)
+          (λ p k. (pathTo t (k .0), (k .0, tip-of (k .0) (p, k .1, k .2 .is-open, k .2 .ends), refl), grown-path (k .0) p (k .1) (k .2)))
+          (λ q k. let h = exists K M long (k .0) (reach-of (k .0) (k .1)) in subst (Survivor K M long) (grown-path (k .0) (h .0) (h .1) (h .2) ∙ ap (λ z. d ++ z) (sym (k .2))) (k .0, h .1, h .2))
+          (taken t - tree.decided t)
+          (length long)
+          (omega (arith, many-now, decided-taken t, g .none-decided, s .settled))
+          (w .out)
+          (pathTo t (u .0))
+          (u .0, u .1, refl)
+          (w .longest)
 
       tips-now : tree.decided (e′ .tree) < taken (e′ .tree) → (u : ℕ) → HasTip (e′ .tree) u ↔ Reachable K M (xs ++ r ∷ []) u
       unfolding long

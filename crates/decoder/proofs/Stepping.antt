@@ -1,12 +1,12 @@
 -- What a step asks of the tree, and what it answers.
-use mathlib.Core.Path.{_≡_, refl, sym, _∙_, ap, subst}
+use mathlib.Core.Path.{_≡_, refl, sym, _∙_, subst}
 use mathlib.Core.Bool.{Bool, true, false}
 use mathlib.Core.List.{List, [], _∷_, _++_}
 use mathlib.Core.Logic.{inl, inr, ∥∥₁-elim}
-use denote.Struct.Props.{props, ≡-prop}
+use denote.Struct.Props.{props}
 use Prim.Native.Nat.{ℕ, _+_, _≤_, _<_}
 use native.Mathlib.Omega.{arith}
-use lib.ListN.{length, getD, take}
+use lib.ListN.{length, take}
 use Rattle.std.specs.Options.{isSome}
 use Rattle.std.specs.declared.option.Option.{Option}
 use Rattle.std.specs.declared.option.Option.the-variants.{Some, None}
@@ -17,18 +17,18 @@ use Rattle.cost.specs.declared.charge.Total.{Total}
 use Rattle.cost.specs.Kind.{Kind}
 use Rattle.model.specs.Meaning.{Meaning}
 use Rattle.viterbi.specs.Lists.{Counted}
-use Rattle.viterbi.specs.Paths.{Reading, Log, Reachable}
+use Rattle.viterbi.specs.Paths.{Reading, Log}
 use Rattle.viterbi.proofs.Count.{live-cells}
 use Rattle.trellis.specs.declared.Rows.{Rows}
 use Rattle.trellis.specs.declared.best.Best.{Best}
 use Rattle.trellis.specs.Rows.{READINGS, First, Advances, Ends, Marked, Tells, totalAt, fromAt}
-use Rattle.trellis.specs.State.{present, other, Kept, Turned}
+use Rattle.trellis.specs.State.{present, Kept}
 use Rattle.survivors.specs.declared.Survivors.{Survivors}
 use Rattle.survivors.specs.Survivors.{HasTip, OnPath, MayGrow, Grown, Settled, Finished, taken}
 use Rattle.survivors.specs.Survivors as tree
 use Rattle.decoder.specs.declared.Decoder.{Decoder}
 use Rattle.decoder.specs.Linked.{Linked}
-use Rattle.decoder.specs.Decoder.{CELLS, Stands, Ended, Totalled, Goes, Advanced, BackedAfter, Full, Stuck, Unchanged, Stepped}
+use Rattle.decoder.specs.Decoder.{CELLS, Stands, Ended, Totalled, Goes, Advanced, BackedAfter, Full, Unchanged, Stepped}
 use Rattle.decoder.proofs.Standing.{in-taken, GoesOn, first-goes, next-goes, stepped, path-ended}
 
 -- what the ghost field gives

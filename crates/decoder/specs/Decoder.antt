@@ -12,7 +12,7 @@ use Rattle.std.specs.declared.result.Result.{Result}
 use Rattle.std.specs.declared.result.Result.the-variants.{Ok, Err}
 use Rattle.fault.specs.declared.Fault.{Fault}
 use Rattle.fault.specs.declared.Fault.the-variants.{TreeFull, NoReachableMode}
-use Rattle.fault.specs.Checks.{Check, _when_, InOrder}
+use Rattle.fault.specs.Checks.{_when_, InOrder}
 use Rattle.cost.specs.declared.charge.Total.{Total}
 use Rattle.cost.specs.Kind.{Kind}
 use Rattle.model.specs.Meaning.{Meaning}
