@@ -1,8 +1,10 @@
 //! Decodes the worked logs and many random logs, and compares what it finds with what it should find.
+mod engine;
 mod random;
 mod refused;
 mod worked;
 
+use decoder::Decoder;
 use std::error::AnyError;
 
 /// How many comparisons were made, and how many came out equal.
@@ -39,11 +41,13 @@ fn run(rt: &LibcRuntime) -> Result<(), AnyError> {
         compared: 0,
         equal: 0,
     };
-    worked::saw_logs(rt, &mut score)?;
-    worked::tie_logs(rt, &mut score)?;
-    worked::breach_logs(rt, &mut score)?;
+    let mut decoder = Decoder::new();
+    worked::saw_logs(rt, &mut score, &mut decoder)?;
+    worked::tie_logs(rt, &mut score, &mut decoder)?;
+    worked::breach_logs(rt, &mut score, &mut decoder)?;
     refused::models(rt, &mut score)?;
-    random::logs(rt, &mut score)?;
+    random::logs(rt, &mut score, &mut decoder)?;
+    random::long_logs(rt, &mut score, &mut decoder)?;
     let compared = score.compared;
     let equal = score.equal;
     println!(rt, "{compared} comparisons, {equal} equal")?;

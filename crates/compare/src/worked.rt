@@ -1,10 +1,12 @@
 //! The worked logs: short logs whose answers are known.
 use super::Score;
+use super::engine;
 use cost::CostKind;
 use cost::Graded;
 use cost::GradedKind;
 use cost::Strict;
 use cost::StrictKind;
+use decoder::Decoder;
 use model::Banded;
 use model::BandedModel;
 use model::DenseModel;
@@ -43,6 +45,7 @@ pub(crate) const SAW: Parameters = Parameters {
 fn show<M: Model, C: CostKind>(
     rt: &LibcRuntime,
     score: &mut Score,
+    decoder: &mut Decoder,
     model: &M,
     kind: &C,
     log: &Log,
@@ -71,11 +74,18 @@ fn show<M: Model, C: CostKind>(
     println!(rt, "  modes {modes:?}, total {breaches} and {penalty}")?;
     let counts = decided.as_slice() == log.decided && live.as_slice() == log.live;
     let path = modes == log.modes && breaches == log.breaches && penalty == log.penalty;
-    score.note(rt, counts && path)
+    let engine = engine::agrees(rt, decoder, model, kind, readings)?;
+    let same = if engine { "the same" } else { "NOT the same" };
+    println!(rt, "  the engine: {same}")?;
+    score.note(rt, counts && path && engine)
 }
 
 /// A log of the saw, and one of no readings.
-pub(crate) fn saw_logs(rt: &LibcRuntime, score: &mut Score) -> Result<(), AnyError> {
+pub(crate) fn saw_logs(
+    rt: &LibcRuntime,
+    score: &mut Score,
+    decoder: &mut Decoder,
+) -> Result<(), AnyError> {
     let saw = Banded::new(SAW);
     let cut = Log {
         name: "saw under Strict",
@@ -86,7 +96,7 @@ pub(crate) fn saw_logs(rt: &LibcRuntime, score: &mut Score) -> Result<(), AnyErr
         decided: &[0, 1, 2, 2, 4],
         live: &[2, 2, 2, 4, 2],
     };
-    show(rt, score, &saw, &Strict {}, &cut)?;
+    show(rt, score, decoder, &saw, &Strict {}, &cut)?;
     let empty = Log {
         name: "no readings under Strict",
         readings: &[],
@@ -96,11 +106,15 @@ pub(crate) fn saw_logs(rt: &LibcRuntime, score: &mut Score) -> Result<(), AnyErr
         decided: &[],
         live: &[],
     };
-    show(rt, score, &saw, &Strict {}, &empty)
+    show(rt, score, decoder, &saw, &Strict {}, &empty)
 }
 
 /// Logs with equally cheap paths: the lower mode at the latest difference wins.
-pub(crate) fn tie_logs(rt: &LibcRuntime, score: &mut Score) -> Result<(), AnyError> {
+pub(crate) fn tie_logs(
+    rt: &LibcRuntime,
+    score: &mut Score,
+    decoder: &mut Decoder,
+) -> Result<(), AnyError> {
     let even = Banded::new(Parameters {
         hop: 0,
         rate: 0,
@@ -116,7 +130,7 @@ pub(crate) fn tie_logs(rt: &LibcRuntime, score: &mut Score) -> Result<(), AnyErr
         decided: &[0, 1],
         live: &[2, 2],
     };
-    show(rt, score, &even, &Strict {}, &free)?;
+    show(rt, score, decoder, &even, &Strict {}, &free)?;
     let wide = Banded::new(Parameters {
         modes: 3,
         hop: 0,
@@ -133,16 +147,20 @@ pub(crate) fn tie_logs(rt: &LibcRuntime, score: &mut Score) -> Result<(), AnyErr
         decided: &[0, 0],
         live: &[3, 5],
     };
-    show(rt, score, &wide, &Strict {}, &three)?;
+    show(rt, score, decoder, &wide, &Strict {}, &three)?;
     let graded = Log {
         name: "three modes under Graded",
         ..three
     };
-    show(rt, score, &wide, &Graded {}, &graded)
+    show(rt, score, decoder, &wide, &Graded {}, &graded)
 }
 
 /// Logs of a table whose only passage has a breach.
-pub(crate) fn breach_logs(rt: &LibcRuntime, score: &mut Score) -> Result<(), AnyError> {
+pub(crate) fn breach_logs(
+    rt: &LibcRuntime,
+    score: &mut Score,
+    decoder: &mut Decoder,
+) -> Result<(), AnyError> {
     let table = DenseTable::new(1, 1, &[0, 65536, 0]);
     let barred = Log {
         name: "a breach under Strict",
@@ -153,7 +171,7 @@ pub(crate) fn breach_logs(rt: &LibcRuntime, score: &mut Score) -> Result<(), Any
         decided: &[1],
         live: &[0],
     };
-    show(rt, score, &table, &Strict {}, &barred)?;
+    show(rt, score, decoder, &table, &Strict {}, &barred)?;
     let counted = Log {
         name: "a breach under Graded",
         readings: &[0, 0],
@@ -163,5 +181,5 @@ pub(crate) fn breach_logs(rt: &LibcRuntime, score: &mut Score) -> Result<(), Any
         decided: &[1, 2],
         live: &[0, 0],
     };
-    show(rt, score, &table, &Graded {}, &counted)
+    show(rt, score, decoder, &table, &Graded {}, &counted)
 }

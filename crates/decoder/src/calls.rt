@@ -52,11 +52,11 @@ impl Decoder {
         ensures { λ r. ⌜ ((xs : Log) → Stands (C·CostKind .kind (now (kind .entry))) (M·Model .meaning (now (model .entry))) xs (now (self .entry)) → Stepped (C·CostKind .kind (now (kind .entry))) (M·Model .meaning (now (model .entry))) xs reading at (now (self .entry)) r (now (self .exit))) ⌝ }
     {
         let modes = self.rows.modes();
-        if self.tree.live() + modes > 1024 {
+        if self.live() + modes > 1024 {
             return Err(Fault::TreeFull(at));
         }
         let mut from = [None; 32];
-        let taken = self.tree.taken();
+        let taken = self.taken();
         if !next_row(&mut self.rows, model, kind, taken, reading, &mut from) {
             return Err(Fault::NoReachableMode(at));
         }
@@ -70,7 +70,7 @@ impl Decoder {
     pub fn finish<M: Model, C: CostKind>(&mut self, model: &M, kind: &C) -> Total
         ensures { λ r. ⌜ ((xs : Log) → Stands (C·CostKind .kind (now (kind .entry))) (M·Model .meaning (now (model .entry))) xs (now (self .entry)) → Ended (C·CostKind .kind (now (kind .entry))) (M·Model .meaning (now (model .entry))) xs r (now (self .exit))) ⌝ }
     {
-        if self.tree.taken() == 0 {
+        if self.taken() == 0 {
             return kind.zero();
         }
         let Some(best) = self.rows.least(model, kind) else {
