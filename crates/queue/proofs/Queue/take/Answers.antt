@@ -1,6 +1,4 @@
-use native.Mathlib.Omega.{arith}
-use mathlib.Core.Path.{refl, ap}
-use lib.ListN.{length}
+use mathlib.Core.Path.{refl}
 use Rattle.queue.specs.Contents.{contents, place}
 use Rattle.queue.proofs.Ring.{ring-rest, place-take}
 use Rattle.queue.proofs.Queue.take.Needs as need
@@ -13,9 +11,10 @@ returns g c =
     let n = c .args .self .now .len in
     let s = c .first-first .result in
     let k = c .len-len .result in
+    let x = c .in-Continue-x .x in
     record {
-      items = ring-rest xs h n s k (c .in-Continue-x .x) (c .in-Continue-x .ensures tt) (c .first-first .ensures) (c .len-len .ensures);
+      items = ring-rest xs h n s k x (c .in-Continue-x .ensures tt) (c .first-first .ensures) (c .len-len .ensures);
       slots = refl;
-      next = place-take xs h n s k (omega (arith, ap length (c .in-Continue-x .ensures tt))) (c .first-first .ensures) (c .len-len .ensures);
+      next = place-take xs h n s k x (c .in-Continue-x .ensures tt) (c .first-first .ensures) (c .len-len .ensures);
       lent = refl;
     }
