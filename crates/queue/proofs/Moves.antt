@@ -1,12 +1,14 @@
 -- Puts and takes one after another, for a loop that moves elements to or from a queue.
-use denote.Ref.{name}
 use lib.ListN.{length, set}
 use mathlib.Core.List.{List, [], _∷_, _++_}
-use mathlib.Core.Path.{_≡_, refl, sym, ap, _∙_}
+use mathlib.Core.Path.{_≡_, refl, sym, ap, subst, _∙_}
 use native.Mathlib.Omega.{arith}
 use Prim.Native.Nat.{ℕ, _+_, _-_, _≤_}
 use Rattle.std.proofs.shelf.Lists.{append-assoc, append-nil, length-append, length-set}
 use Rattle.std.proofs.shelf.Ways.{tells}
+use Rattle.std.specs.declared.option.Option.{Option}
+use Rattle.std.specs.declared.option.Option.the-variants.{Some, None}
+use Rattle.std.specs.Options.{Cases}
 use Rattle.queue.specs.Contents.{onward, stored, start, contents, place, capacity, memory, Appended, Removed}
 use Rattle.queue.specs.declared.Queue.{Queue}
 use Rattle.queue.proofs.Ring.{length-ring}
@@ -81,3 +83,8 @@ removed-more {X} {p} {q} {r} {xs} {ys} a b = record {
   next = b .next ∙ a .next;
   lent = b .lent ∙ a .lent;
 }
+
+-- What a take gives where the oldest element is known, as after a peek.
+pub taken-known : {X : Type 0} {q q′ : Queue X} {m : X} {rest : List X} (r : Option X) → Cases r ((contents q ≡ []) × (q′ ≡ q)) (λ x. Removed q (x ∷ []) q′) → contents q ≡ m ∷ rest → Removed q (m ∷ []) q′
+taken-known None t e = let z : _≡_ {A = ℕ} 0 1 = cc (t .0, e) in absurd (omega arith)
+taken-known {X} {q} {q′} {m} {rest} (Some x) t e = let same : x ≡ m = cc (t .items, e) in subst (λ y. Removed q (y ∷ []) q′) same t

@@ -2,8 +2,8 @@
 ghost use mathlib.Core.List.{[], _∷_};
 ghost use mathlib.Core.Path.{_≡_};
 ghost use Prim.Native.Nat.{_+_, _<_};
-ghost use Rattle.segment.specs.Segmenter.{Stands, Grown, Blocked};
 ghost use Rattle.fault.specs.declared.Fault.the-variants.{QueueFull};
+ghost use Rattle.segment.specs.Segmenter.{Stands, Grown, Blocked, Advanced, Ended, EndBlocked};
 ghost use Rattle.std.specs.declared.option.Option.the-variants.{Some};
 ghost use Rattle.std.specs.Results.{Cases};
 use fault::Fault;
@@ -35,16 +35,38 @@ impl Segmenter {
         Segmenter { hand: None, taken: 0 }
     }
 
-    // The segment in hand is now `segment`, with one mode more taken.
-    fn hold(&mut self, segment: Segment)
-        requires { ⌜ now self .taken < 1000000 ⌝ }
-        ensures { λ _. ⌜ now (self .exit) ≡ record { hand = Some segment; taken = now (self .entry) .taken + 1 } ⌝ }
+    /// Takes modes from the front of one queue and puts each segment that they close into the other. It stops when no
+    /// mode is left, when there is no room for a closed segment, or when it has taken 1,000,000 modes since new. It
+    /// answers how many it took; the others stay in their queue.
+    pub fn advance(&mut self, modes: &mut Queue<u8>, segments: &mut Queue<Segment>) -> usize
+        ensures { λ r. ⌜ Advanced (now (self .entry)) (now (modes .entry)) (now (segments .entry)) r (now (self .exit)) (now (modes .exit)) (now (segments .exit)) ⌝ }
     {
-        self.hand = Some(segment);
-        self.taken += 1;
+        let mut count = 0;
+        while self.taken < MOST {
+            let Some(mode) = modes.peek() else {
+                return count;
+            };
+            let Ok(()) = self.step(mode, segments) else {
+                return count;
+            };
+            let _ = modes.take();
+            count += 1;
+        }
+        count
     }
 
-    // Takes one mode. Where it closes the segment in hand and there is no room for that, it refuses, and all is as before.
+    /// Puts the segment in hand, if there is one, and is new again. Refused where there is no room for it.
+    pub fn end(&mut self, segments: &mut Queue<Segment>) -> Result<(), Fault>
+        ensures { λ r. ⌜ Cases r (λ _. Ended (now (self .entry)) (now (segments .entry)) (now (self .exit)) (now (segments .exit))) (λ f. (f ≡ QueueFull) × (now (self .exit) ≡ now (self .entry)) × (now (segments .exit) ≡ now (segments .entry)) × EndBlocked (now (self .entry)) (now (segments .entry))) ⌝ }
+    {
+        if let Some(segment) = self.hand {
+            segments.put(segment)?;
+        }
+        *self = Segmenter::new();
+        Ok(())
+    }
+
+    // Takes one mode. Where that closes the segment in hand and there is no room for it, all is left as it is.
     fn step(&mut self, mode: u8, segments: &mut Queue<Segment>) -> Result<(), Fault>
         requires { ⌜ now self .taken < 1000000 ⌝ }
         ensures { λ r. ⌜ Cases r (λ _. Grown (now (self .entry)) (now (segments .entry)) (mode ∷ []) (now (self .exit)) (now (segments .exit))) (λ _. (now (self .exit) ≡ now (self .entry)) × (now (segments .exit) ≡ now (segments .entry)) × Blocked (now (self .entry)) mode (now (segments .entry))) ⌝ }
@@ -69,5 +91,14 @@ impl Segmenter {
             }
         }
         Ok(())
+    }
+
+    // One mode more is taken, and `segment` is the one in hand.
+    fn hold(&mut self, segment: Segment)
+        requires { ⌜ now self .taken < 1000000 ⌝ }
+        ensures { λ _. ⌜ now (self .exit) ≡ record { hand = Some segment; taken = now (self .entry) .taken + 1 } ⌝ }
+    {
+        self.hand = Some(segment);
+        self.taken += 1;
     }
 }
