@@ -38,7 +38,7 @@ impl<'a, T: Copy> Queue<'a, T> {
     pub fn len(&self) -> usize
         ensures { λ r. ⌜ r ≡ length (contents (now (self .entry))) ⌝ }
     {
-        self.len.min(self.slots.len())
+        self.len.min(self.capacity())
     }
 
     /// The number of elements that the lent memory has room for.
@@ -52,7 +52,7 @@ impl<'a, T: Copy> Queue<'a, T> {
     pub fn room(&self) -> usize
         ensures { λ r. ⌜ r + length (contents (now (self .entry))) ≡ capacity (now (self .entry)) ⌝ }
     {
-        self.slots.len().saturating_sub(self.len)
+        self.capacity().saturating_sub(self.len)
     }
 
     /// Whether there is no element.
@@ -66,14 +66,14 @@ impl<'a, T: Copy> Queue<'a, T> {
     pub fn is_full(&self) -> bool
         ensures { λ r. ⌜ Decides r (length (contents (now (self .entry))) ≡ capacity (now (self .entry))) ⌝ }
     {
-        self.len >= self.slots.len()
+        self.len >= self.capacity()
     }
 
     // The slot of the oldest element.
     fn first(&self) -> usize
         ensures { λ r. ⌜ r ≡ start (now (memory (now (self .entry)))) (now (self .entry) .head) ⌝ }
     {
-        if self.head < self.slots.len() {
+        if self.head < self.capacity() {
             self.head
         } else {
             0
@@ -84,7 +84,7 @@ impl<'a, T: Copy> Queue<'a, T> {
     pub fn put(&mut self, x: T) -> Result<(), Fault>
         ensures { λ r. ⌜ Cases r (λ _. Appended (now (self .entry)) (x ∷ []) (now (self .exit))) (λ f. (f ≡ QueueFull) × (length (contents (now (self .entry))) ≡ capacity (now (self .entry))) × (now (self .exit) ≡ now (self .entry))) ⌝ }
     {
-        let cap = self.slots.len();
+        let cap = self.capacity();
         if self.len >= cap {
             return Err(Fault::QueueFull);
         }

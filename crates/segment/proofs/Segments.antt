@@ -151,20 +151,20 @@ longer-one : (ms : List ℕ) (ss : List Segment) (m : ℕ) → SegmentsOf ms ss 
 longer-one ms ss m a =
     ⊎-elim
     (λ e.
-       let none : ms ≡ [] = sym (a .whole) ∙ ap (joined modesOf) e in
-       let one : SegmentsOf (ms ++ m ∷ []) (record { mode = m; first = 1; length = 1 } ∷ []) = subst (λ xs. SegmentsOf (xs ++ m ∷ []) (record { mode = m; first = 1; length = 1 } ∷ [])) (sym none) (segments-first m) in
-       (record { mode = m; first = 1; length = 1 } ∷ [], one, omega (arith, ap length e), omega arith))
+    let none : ms ≡ [] = sym (a .whole) ∙ ap (joined modesOf) e in
+    let one : SegmentsOf (ms ++ m ∷ []) (record { mode = m; first = 1; length = 1 } ∷ []) = subst (λ xs. SegmentsOf (xs ++ m ∷ []) (record { mode = m; first = 1; length = 1 } ∷ [])) (sym none) (segments-first m) in
+    (record { mode = m; first = 1; length = 1 } ∷ [], one, omega (arith, ap length e), omega arith))
     (λ v.
-       let rs = v .0 in
-       let s = v .1 in
-       let was : SegmentsOf ms (rs ++ s ∷ []) = subst (SegmentsOf ms) (v .2) a in
-       let long : length ss ≡ length rs + 1 = ap length (v .2) ∙ length-push rs s in
-       let t : Segment = record { mode = m; first = s .first; length = s .length + 1 } in
-       let u : Segment = record { mode = m; first = length ms + 1; length = 1 } in
-       ⊎-elim
-       (λ e. (rs ++ t ∷ [], segments-equal rs s t was (sym e) refl refl, omega (arith, length-push rs t), omega (arith, length-push rs t)))
-       (λ f. ((rs ++ s ∷ []) ++ u ∷ [], segments-other rs s u was f refl refl, omega (arith, length-push (rs ++ s ∷ []) u, length-push rs s), omega (arith, length-push (rs ++ s ∷ []) u, length-push rs s)))
-       (cases-eq (s .mode) m))
+    let rs = v .0 in
+    let s = v .1 in
+    let was : SegmentsOf ms (rs ++ s ∷ []) = subst (SegmentsOf ms) (v .2) a in
+    let long : length ss ≡ length rs + 1 = ap length (v .2) ∙ length-push rs s in
+    let t : Segment = record { mode = m; first = s .first; length = s .length + 1 } in
+    let u : Segment = record { mode = m; first = length ms + 1; length = 1 } in
+    ⊎-elim
+    (λ e. (rs ++ t ∷ [], segments-equal rs s t was (sym e) refl refl, omega (arith, length-push rs t), omega (arith, length-push rs t)))
+    (λ f. ((rs ++ s ∷ []) ++ u ∷ [], segments-other rs s u was f refl refl, omega (arith, length-push (rs ++ s ∷ []) u, length-push rs s), omega (arith, length-push (rs ++ s ∷ []) u, length-push rs s)))
+    (cases-eq (s .mode) m))
     (last-of ss)
 
 pub longer : (ns ms : List ℕ) (ss : List Segment) → SegmentsOf ms ss → Longer (ms ++ ns) ss (length ns)

@@ -11,6 +11,10 @@ use Rattle.segment.specs.declared.Segment.{Segment}
 use Rattle.segment.specs.declared.Segmenter.{Segmenter}
 use Rattle.segment.specs.Segments.{SegmentsOf, TheSegments}
 
+-- The most modes that a segmenter takes before its end call.
+abbrev pub limit : ℕ
+limit = 1000000
+
 -- The segment in hand, if any, as a list.
 abbrev pub inHand : Option Segment → List Segment
 inHand None = []
@@ -22,7 +26,7 @@ pub record Stands (s : Segmenter) (taken : List ℕ) (put : List Segment) : Type
   pub segments : TheSegments taken (put ++ inHand (s .hand))
   pub none : s .hand ≡ None → taken ≡ []
   pub count : s .taken ≡ length taken
-  pub few : length taken ≤ 1000000
+  pub few : length taken ≤ limit
 
 -- The segmenter s takes the modes ms and becomes s′; the segments that they close go into the queue q, which becomes q′.
 pub record Grown (s : Segmenter) (q : Queue Segment) (ms : List ℕ) (s′ : Segmenter) (q′ : Queue Segment) : Type 0 where
@@ -39,10 +43,10 @@ pub record Blocked (s : Segmenter) (m : ℕ) (q : Queue Segment) : Type 0 where
   pub full : length (contents q) ≡ capacity q
 
 -- After `taken` and `put`, the first k of the modes that wait can be taken: there are so many, it comes to at most
--- 1,000,000, and of all segments then there is room for those not put yet, but for the last, which stays in hand.
+-- the limit, and of all segments then there is room for those not put yet, but for the last, which stays in hand.
 pub record CanTake (taken : List ℕ) (put : List Segment) (waiting : List ℕ) (room k : ℕ) : Type 0 where
   pub there : k ≤ length waiting
-  pub few : length taken + k ≤ 1000000
+  pub few : length taken + k ≤ limit
   pub segments : List Segment
   pub are : SegmentsOf (taken ++ take k waiting) segments
   pub fit : length segments ≤ length put + room + 1

@@ -3,7 +3,7 @@ ghost use mathlib.Core.List.{[], _∷_};
 ghost use mathlib.Core.Path.{_≡_};
 ghost use Prim.Native.Nat.{_+_, _<_};
 ghost use Rattle.fault.specs.declared.Fault.the-variants.{QueueFull};
-ghost use Rattle.segment.specs.Segmenter.{Stands, Grown, Blocked, Advanced, Ended, EndBlocked};
+ghost use Rattle.segment.specs.Segmenter.{limit, Stands, Grown, Blocked, Advanced, Ended, EndBlocked};
 ghost use Rattle.std.specs.declared.option.Option.the-variants.{Some};
 ghost use Rattle.std.specs.Results.{Cases};
 use fault::Fault;
@@ -32,7 +32,10 @@ impl Segmenter {
     pub fn new() -> Segmenter
         ensures { λ r. ⌜ Stands r [] [] ⌝ }
     {
-        Segmenter { hand: None, taken: 0 }
+        Segmenter {
+            hand: None,
+            taken: 0,
+        }
     }
 
     /// Takes modes from the front of one queue and puts each segment that they close into the other. It stops when no
@@ -68,7 +71,7 @@ impl Segmenter {
 
     // Takes one mode. Where that closes the segment in hand and there is no room for it, all is left as it is.
     fn step(&mut self, mode: u8, segments: &mut Queue<Segment>) -> Result<(), Fault>
-        requires { ⌜ now self .taken < 1000000 ⌝ }
+        requires { ⌜ now self .taken < limit ⌝ }
         ensures { λ r. ⌜ Cases r (λ _. Grown (now (self .entry)) (now (segments .entry)) (mode ∷ []) (now (self .exit)) (now (segments .exit))) (λ _. (now (self .exit) ≡ now (self .entry)) × (now (segments .exit) ≡ now (segments .entry)) × Blocked (now (self .entry)) mode (now (segments .entry))) ⌝ }
     {
         match (self.hand, mode) {
@@ -95,7 +98,7 @@ impl Segmenter {
 
     // One mode more is taken, and `segment` is the one in hand.
     fn hold(&mut self, segment: Segment)
-        requires { ⌜ now self .taken < 1000000 ⌝ }
+        requires { ⌜ now self .taken < limit ⌝ }
         ensures { λ _. ⌜ now (self .exit) ≡ record { hand = Some segment; taken = now (self .entry) .taken + 1 } ⌝ }
     {
         self.hand = Some(segment);

@@ -17,6 +17,6 @@ returns c =
     let q = c .args .segments .now in
     let s′ = c .new .result in
     elim (c .match-self .came) [
-      in-Some·in-Continue-put w ↦ subst (Ended s q s′) (sym (w .segments-is)) (ended-some s s′ q (w .put .last .self) (w .in-Some .segment) (w .in-Some .is) (w .in-Continue-put .ensures tt) (c .new .ensures))
-    | in-rest w ↦ subst (Ended s q s′) (sym (w .segments-is)) (ended-none s s′ q (w .in-rest .is) (c .new .ensures))
+      | in-Some·in-Continue-put w ↦ subst (Ended s q s′) (sym (w .segments-is)) (ended-some s s′ q (w .put .last .self) (w .in-Some .segment) (w .in-Some .is) (w .in-Continue-put .ensures tt) (c .new .ensures))
+      | in-rest w ↦ subst (Ended s q s′) (sym (w .segments-is)) (ended-none s s′ q (w .in-rest .is) (c .new .ensures))
     ]
