@@ -48,9 +48,12 @@ stored-append xs p (y ∷ ys) zs l m =
 pub appended-capacity : {X : Type 0} {q q′ : Queue X} {ys : List X} → Appended q ys q′ → capacity q′ ≡ capacity q
 appended-capacity {X} {q} {q′} {ys} a = ap length (a .slots) ∙ length-stored (memory q .now) (place q) ys
 
--- No more is put than there was room for.
+-- It adds as many elements as are put, and no more than there was room for.
+pub appended-length : {X : Type 0} {q q′ : Queue X} {ys : List X} → Appended q ys q′ → length (contents q′) ≡ length (contents q) + length ys
+appended-length {X} {q} {q′} {ys} a = ap length (a .items) ∙ length-append (contents q) ys
+
 pub appended-fits : {X : Type 0} {q q′ : Queue X} {ys : List X} → Appended q ys q′ → length (contents q) + length ys ≤ capacity q
-appended-fits {X} {q} {q′} {ys} a = omega (arith, held q′, ap length (a .items), length-append (contents q) ys, appended-capacity a)
+appended-fits {X} {q} {q′} {ys} a = omega (arith, held q′, appended-length a, appended-capacity a)
 
 -- Nothing put, and a put after others.
 pub appended-none : {X : Type 0} (q : Queue X) → Appended q [] q
@@ -64,7 +67,7 @@ appended-none q = record {
 pub appended-more : {X : Type 0} {p q r : Queue X} {xs ys : List X} → Appended p xs q → Appended q ys r → Appended p (xs ++ ys) r
 appended-more {X} {p} {q} {r} {xs} {ys} a b =
     let same : capacity q ≡ capacity p = appended-capacity a in
-    let fits : length xs + length ys ≤ capacity p = omega (arith, appended-fits b, ap length (a .items), length-append (contents p) xs) in
+    let fits : length xs + length ys ≤ capacity p = omega (arith, appended-fits b, appended-length a) in
     record {
       items = b .items ∙ ap (λ zs. zs ++ ys) (a .items) ∙ append-assoc (contents p) xs ys;
       slots = b .slots ∙ ap (λ zs. stored zs (place q) ys) (a .slots) ∙ ap (λ i. stored (stored (memory p .now) (place p) xs) i ys) (a .next) ∙ sym (stored-append (memory p .now) (place p) xs ys (place-within p) (omega arith));

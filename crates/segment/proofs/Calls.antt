@@ -9,7 +9,7 @@ use Rattle.std.proofs.shelf.Lists.{append-assoc, append-nil, length-append, len
 use Rattle.std.proofs.shelf.Tests.{cases-lt}
 use Rattle.std.specs.declared.option.Option.{Option}
 use Rattle.std.specs.declared.option.Option.the-variants.{Some, None}
-use Rattle.queue.proofs.Moves.{held, appended-none, appended-capacity, appended-fits}
+use Rattle.queue.proofs.Moves.{appended-none, appended-capacity, appended-length, appended-fits}
 use Rattle.queue.specs.Contents.{contents, capacity, Appended, Removed}
 use Rattle.queue.specs.declared.Queue.{Queue}
 use Rattle.segment.specs.declared.Segment.{Segment}
@@ -61,7 +61,7 @@ module _ (s s′ : Segmenter) (modes modes′ : Queue ℕ) (q q′ : Queue Segme
       let same : taken ++ take k (contents modes) ≡ ((taken ++ moved) ++ m ∷ []) ++ past .0 = ap (λ xs. taken ++ xs) rests ∙ sym (append-assoc taken (moved ++ m ∷ []) (past .0)) ∙ ap (λ xs. xs ++ past .0) (sym (append-assoc taken moved (m ∷ []))) in
       let long = longer (past .0) ((taken ++ moved) ++ m ∷ []) ((all ++ h ∷ []) ++ t ∷ []) more in
       let is : c .segments ≡ long .0 = unique (long .1) .only (c .segments) (subst (λ xs. SegmentsOf xs (c .segments)) same (c .are)) in
-      omega (arith, c .fit, ap length is, long .2, length-push (all ++ h ∷ []) t, length-push all h, length-append put (grown .closed), w .full, ap length (grown .appended .items), length-append (contents q) (grown .closed), appended-capacity (grown .appended))
+      omega (arith, c .fit, ap length is, long .2, length-push (all ++ h ∷ []) t, length-push all h, length-append put (grown .closed), w .full, appended-length (grown .appended), appended-capacity (grown .appended))
 
   -- So they are as many as can be taken, where the segmenter has stopped.
   most : Stopped s′ modes′ q′ → Greatest (CanTake taken put (contents modes) (capacity q - length (contents q))) (length moved)

@@ -8,10 +8,10 @@ use Prim.Native.Nat.{ℕ, zero, suc, _+_, _≤_, _<_}
 use Rattle.std.specs.Joined.{joined}
 use Rattle.std.specs.shelf.Lists.{All}
 use Rattle.std.proofs.shelf.Elements.{all-push}
-use Rattle.std.proofs.shelf.Lists.{append-assoc, append-nil, joined-more, length-append, length-push, length-replicate, replicate-more}
+use Rattle.std.proofs.shelf.Lists.{append-assoc, append-nil, joined-more, length-append, length-push, length-replicate, replicate-more, same-from-push}
 use Rattle.std.proofs.shelf.Tests.{cases-eq}
 use Rattle.segment.specs.declared.Segment.{Segment}
-use Rattle.segment.specs.Segments.{modesOf, NeighboursDiffer, PlacedFrom, SegmentsOf, TheSegments}
+use Rattle.segment.specs.Segments.{modesOf, NeighboursDiffer, PlacedFrom, SegmentsOf, LongestStretch, TheSegments}
 
 abbrev Some : List Segment → Type 0
 Some ss = All (λ s. 0 < s .length) ss
@@ -66,31 +66,84 @@ unique-from n (s ∷ ss) (t ∷ ts) e p q c d k l =
     let head : s ≡ t = same-segment s t m (k .0 ∙ sym (l .0)) (r .0) in
     ap (λ x. x ∷ ss) head ∙ ap (λ xs. t ∷ xs) rest
 
+-- The last of a list of segments.
+
+whole-append : (rs ss : List Segment) → joined modesOf (rs ++ ss) ≡ joined modesOf rs ++ joined modesOf ss
+whole-append [] ss = refl
+whole-append (r ∷ rs) ss = ap (λ xs. modesOf r ++ xs) (whole-append rs ss) ∙ sym (append-assoc (modesOf r) (joined modesOf rs) (joined modesOf ss))
+
+whole-last : (ss : List Segment) (s : Segment) → joined modesOf (ss ++ s ∷ []) ≡ joined modesOf ss ++ modesOf s
+whole-last ss s = sym (joined-more modesOf [] ss s)
+
+some-parts : (rs ss : List Segment) → Some (rs ++ ss) → Some rs × Some ss
+some-parts [] ss p = (tt, p)
+some-parts (r ∷ rs) ss p = let rest = some-parts rs ss (p .1) in ((p .0, rest .0), rest .1)
+
+differ-rest : (rs ss : List Segment) → NeighboursDiffer (rs ++ ss) → NeighboursDiffer ss
+differ-rest [] ss d = d
+differ-rest (r ∷ rs) ss d = differ-rest rs ss (rest-differ r (rs ++ ss) d)
+
+placed-front : (n : ℕ) (rs : List Segment) (s : Segment) (ss : List Segment) → PlacedFrom n (rs ++ s ∷ ss) → PlacedFrom n rs × (s .first ≡ n + length (joined modesOf rs))
+placed-front n [] s ss p = (tt, p .0 ∙ omega arith)
+placed-front n (r ∷ rs) s ss p =
+    let rest = placed-front (n + r .length) rs s ss (p .1) in
+    ((p .0, rest .0), omega (arith, rest .1, length-append (modesOf r) (joined modesOf rs), length-replicate (r .length) (r .mode)))
+
+placed-last : (n : ℕ) (ss : List Segment) (s : Segment) → PlacedFrom n ss → s .first ≡ n + length (joined modesOf ss) → PlacedFrom n (ss ++ s ∷ [])
+placed-last n [] s p e = (e ∙ omega arith, tt)
+placed-last n (r ∷ ss) s p e = (p .0, placed-last (n + r .length) ss s (p .1) (omega (arith, e, length-append (modesOf r) (joined modesOf ss), length-replicate (r .length) (r .mode))))
+
+-- A list of segments is empty, or has a last one.
+last-of : (ss : List Segment) → (ss ≡ []) ⊎ ((rs : List Segment) × (s : Segment) × (ss ≡ rs ++ s ∷ []))
+last-of [] = inl refl
+last-of (s ∷ ss) = inr (⊎-elim (λ e. ([], s, ap (λ xs. s ∷ xs) e)) (λ v. (s ∷ v .0, v .1, ap (λ xs. s ∷ xs) (v .2))) (last-of ss))
+
+-- Each segment is a longest stretch of one mode.
+
+last-mode : (n m x : ℕ) (xs ys : List ℕ) → 0 < n → xs ++ replicate n m ≡ ys ++ x ∷ [] → m ≡ x
+last-mode zero m x xs ys p e = absurd (omega arith)
+last-mode (suc n) m x xs ys p e =
+    let one : suc n ≡ n + 1 = omega arith in
+    let push : xs ++ replicate (suc n) m ≡ (xs ++ replicate n m) ++ m ∷ [] = ap (λ k. xs ++ replicate k m) one ∙ ap (λ zs. xs ++ zs) (sym (replicate-more n m)) ∙ sym (append-assoc xs (replicate n m) (m ∷ [])) in
+    same-from-push (xs ++ replicate n m) ys m x (sym push ∙ e) .1
+
+front-differs : (rs : List Segment) (s : Segment) (ss : List Segment) → NeighboursDiffer (rs ++ s ∷ ss) → Some rs → (xs : List ℕ) → joined modesOf rs ≡ xs ++ s .mode ∷ [] → ⊥
+front-differs rs s ss d p xs e =
+    ⊎-elim
+    (λ n. omega (arith, ap length (sym e ∙ ap (joined modesOf) n), length-push xs (s .mode)))
+    (λ v.
+    let qs = v .0 in
+    let r = v .1 in
+    let split : rs ++ s ∷ ss ≡ qs ++ (r ∷ (s ∷ ss)) = ap (λ zs. zs ++ s ∷ ss) (v .2) ∙ append-assoc qs (r ∷ []) (s ∷ ss) in
+    let two : NeighboursDiffer (r ∷ (s ∷ ss)) = differ-rest qs (r ∷ (s ∷ ss)) (subst NeighboursDiffer split d) in
+    let long : 0 < r .length = some-parts qs (r ∷ []) (subst Some (v .2) p) .1 .0 in
+    two .0 (last-mode (r .length) (r .mode) (s .mode) (joined modesOf qs) xs long (sym (whole-last qs r) ∙ ap (joined modesOf) (sym (v .2)) ∙ e)))
+    (last-of rs)
+
+stretch : (ms : List ℕ) (rs : List Segment) (s : Segment) (ss : List Segment) → SegmentsOf ms (rs ++ s ∷ ss) → LongestStretch ms s
+stretch ms rs s ss a =
+    let parts = some-parts rs (s ∷ ss) (a .some) in
+    record {
+      before = joined modesOf rs;
+      after = joined modesOf ss;
+      stands = sym (a .whole) ∙ whole-append rs (s ∷ ss) ∙ sym (append-assoc (joined modesOf rs) (modesOf s) (joined modesOf ss));
+      first = omega (arith, placed-front 1 rs s ss (a .placed) .1);
+      some = parts .1 .0;
+      begins = front-differs rs s ss (a .longest) (parts .0);
+      ends = λ xs e. rest-differs s ss (differ-rest rs (s ∷ ss) (a .longest)) (parts .1 .1) (xs, e);
+    }
+
+all-stretches : (ms : List ℕ) (rs ss : List Segment) → SegmentsOf ms (rs ++ ss) → All (LongestStretch ms) ss
+all-stretches ms rs [] a = tt
+all-stretches ms rs (s ∷ ss) a = (stretch ms rs s ss a, all-stretches ms (rs ++ s ∷ []) ss (subst (SegmentsOf ms) (sym (append-assoc rs (s ∷ []) ss)) a))
+
 -- A list has one list of segments only.
 pub unique : {ms : List ℕ} {ss : List Segment} → SegmentsOf ms ss → TheSegments ms ss
 unique {ms} {ss} a = record {
   are = a;
   only = λ ts b. unique-from 1 ts ss (b .whole ∙ sym (a .whole)) (b .some) (a .some) (b .longest) (a .longest) (b .placed) (a .placed);
+  stretches = all-stretches ms [] ss a;
 }
-
--- The last of a list of segments.
-
-some-front : (ss : List Segment) (s : Segment) → Some (ss ++ s ∷ []) → Some ss × (0 < s .length)
-some-front [] s p = (tt, p .0)
-some-front (r ∷ ss) s p = let rest = some-front ss s (p .1) in ((p .0, rest .0), rest .1)
-
-whole-last : (ss : List Segment) (s : Segment) → joined modesOf (ss ++ s ∷ []) ≡ joined modesOf ss ++ modesOf s
-whole-last ss s = sym (joined-more modesOf [] ss s)
-
-placed-front : (n : ℕ) (ss : List Segment) (s : Segment) → PlacedFrom n (ss ++ s ∷ []) → PlacedFrom n ss × (s .first ≡ n + length (joined modesOf ss))
-placed-front n [] s p = (tt, p .0 ∙ omega arith)
-placed-front n (r ∷ ss) s p =
-    let rest = placed-front (n + r .length) ss s (p .1) in
-    ((p .0, rest .0), omega (arith, rest .1, length-append (modesOf r) (joined modesOf ss), length-replicate (r .length) (r .mode)))
-
-placed-last : (n : ℕ) (ss : List Segment) (s : Segment) → PlacedFrom n ss → s .first ≡ n + length (joined modesOf ss) → PlacedFrom n (ss ++ s ∷ [])
-placed-last n [] s p e = (e ∙ omega arith, tt)
-placed-last n (r ∷ ss) s p e = (p .0, placed-last (n + r .length) ss s (p .1) (omega (arith, e, length-append (modesOf r) (joined modesOf ss), length-replicate (r .length) (r .mode))))
 
 -- Another last segment of the same mode, and one more of another mode.
 differ-same : (ss : List Segment) (s t : Segment) → t .mode ≡ s .mode → NeighboursDiffer (ss ++ s ∷ []) → NeighboursDiffer (ss ++ t ∷ [])
@@ -119,10 +172,10 @@ pub segments-equal : {ms : List ℕ} (ss : List Segment) (s t : Segment) → Seg
 segments-equal ss s t a e f g =
     let before = joined modesOf ss in
     let grown : modesOf t ≡ modesOf s ++ t .mode ∷ [] = ap (λ n. replicate n (t .mode)) g ∙ sym (replicate-more (s .length) (t .mode)) ∙ ap (λ m. replicate (s .length) m ++ t .mode ∷ []) e in
-    let was = placed-front 1 ss s (a .placed) in
+    let was = placed-front 1 ss s [] (a .placed) in
     record {
       whole = whole-last ss t ∙ ap (λ xs. before ++ xs) grown ∙ sym (append-assoc before (modesOf s) (t .mode ∷ [])) ∙ ap (λ xs. xs ++ t .mode ∷ []) (sym (whole-last ss s) ∙ a .whole);
-      some = all-push (λ s. 0 < s .length) ss t (some-front ss s (a .some) .0) (omega arith);
+      some = all-push (λ s. 0 < s .length) ss t (some-parts ss (s ∷ []) (a .some) .0) (omega arith);
       longest = differ-same ss s t e (a .longest);
       placed = placed-last 1 ss t (was .0) (f ∙ was .1);
     }
@@ -137,11 +190,6 @@ segments-other ss s t a e f g =
       longest = differ-more ss s t e (a .longest);
       placed = placed-last 1 before t (a .placed) (omega (arith, ap length (a .whole)));
     }
-
--- A list of segments is empty, or has a last one.
-last-of : (ss : List Segment) → (ss ≡ []) ⊎ ((rs : List Segment) × (s : Segment) × (ss ≡ rs ++ s ∷ []))
-last-of [] = inl refl
-last-of (s ∷ ss) = inr (⊎-elim (λ e. ([], s, ap (λ xs. s ∷ xs) e)) (λ v. (s ∷ v .0, v .1, ap (λ xs. s ∷ xs) (v .2))) (last-of ss))
 
 -- Where the list of modes goes on, so do its segments: none is lost, and each mode brings at most one.
 abbrev Longer : List ℕ → List Segment → ℕ → Type 0

@@ -1,6 +1,6 @@
 -- The segments of a list of modes.
-use lib.ListN.{replicate}
-use mathlib.Core.List.{List, [], _∷_}
+use lib.ListN.{length, replicate}
+use mathlib.Core.List.{List, [], _∷_, _++_}
 use mathlib.Core.Path.{_≡_}
 use Prim.Native.Nat.{ℕ, _+_, _<_}
 use Rattle.std.specs.Joined.{joined}
@@ -29,7 +29,18 @@ pub record SegmentsOf (ms : List ℕ) (ss : List Segment) : Type 0 where
   pub longest : NeighboursDiffer ss
   pub placed : PlacedFrom 1 ss
 
--- The segments of ms are ss, and no other list.
+-- s is a longest stretch of one mode in ms: neither the reading before it nor the one after it has its mode.
+pub record LongestStretch (ms : List ℕ) (s : Segment) : Type 0 where
+  pub before : List ℕ
+  pub after : List ℕ
+  pub stands : ms ≡ (before ++ modesOf s) ++ after
+  pub first : s .first ≡ length before + 1
+  pub some : 0 < s .length
+  pub begins : (xs : List ℕ) → before ≡ xs ++ s .mode ∷ [] → ⊥
+  pub ends : (xs : List ℕ) → after ≡ s .mode ∷ xs → ⊥
+
+-- The segments of ms are ss, and no other list; each is a longest stretch of one mode.
 pub record TheSegments (ms : List ℕ) (ss : List Segment) : Type 0 where
   pub are : SegmentsOf ms ss
   pub only : (ts : List Segment) → SegmentsOf ms ts → ts ≡ ss
+  pub stretches : All (LongestStretch ms) ss

@@ -62,8 +62,8 @@ impl Segmenter {
     pub fn end(&mut self, segments: &mut Queue<Segment>) -> Result<(), Fault>
         ensures { λ r. ⌜ Cases r (λ _. Ended (now (self .entry)) (now (segments .entry)) (now (self .exit)) (now (segments .exit))) (λ f. (f ≡ QueueFull) × (now (self .exit) ≡ now (self .entry)) × (now (segments .exit) ≡ now (segments .entry)) × EndBlocked (now (self .entry)) (now (segments .entry))) ⌝ }
     {
-        if let Some(segment) = self.hand {
-            segments.put(segment)?;
+        if let Some(last) = self.hand {
+            segments.put(last)?;
         }
         *self = Segmenter::new();
         Ok(())

@@ -14,7 +14,7 @@ returns g c =
     let x = c .in-Continue-x .x in
     record {
       items = ring-rest xs h n s k x (c .in-Continue-x .ensures tt) (c .first-first .ensures) (c .len-len .ensures);
-      slots = refl;
+      slots = refl {a = xs};
       next = place-take xs h n s k x (c .in-Continue-x .ensures tt) (c .first-first .ensures) (c .len-len .ensures);
-      lent = refl;
+      lent = refl {a = c .args .self .now .slots .name};
     }

@@ -42,4 +42,4 @@ loop-self-again c =
     )
 
 pub returns : need.returns
-returns c = let i = c .loop-self .inv in advanced (i .0) (i .1) (i .2) (i .3) (inr (inl (c .loop-self-test .left)))
+returns c = let i = c .loop-self .inv in advanced (i .0) (i .1) (i .2) (i .3) (inr (inl (omega (arith, c .loop-self-test .left))))
