@@ -105,3 +105,6 @@ impl Segmenter {
         self.taken += 1;
     }
 }
+
+#[cfg(test)]
+mod tests;
