@@ -1,11 +1,11 @@
 -- What the calls of a segmenter come to.
 use lib.ListN.{length, take}
 use mathlib.Core.List.{List, [], _∷_, _++_}
-use mathlib.Core.Logic.{_⊎_, inl, inr, ⊎-elim}
+use mathlib.Core.Logic.{_⊎_, ⊎-elim}
 use mathlib.Core.Path.{_≡_, refl, sym, ap, subst, _∙_}
 use native.Mathlib.Omega.{arith}
 use Prim.Native.Nat.{ℕ, zero, suc, _+_, _-_, _≤_, _<_}
-use Rattle.std.proofs.shelf.Lists.{append-assoc, append-nil, length-append, length-push, nil-from-length, take-all, take-at}
+use Rattle.std.proofs.shelf.Lists.{append-assoc, length-append, length-push, nil-from-length, take-all, take-at}
 use Rattle.std.proofs.shelf.Tests.{cases-lt}
 use Rattle.std.specs.declared.option.Option.{Option}
 use Rattle.std.specs.declared.option.Option.the-variants.{Some, None}

@@ -1,9 +1,9 @@
--- What one more mode does to a segmenter, and how many modes it takes.
+-- What modes do to a segmenter, one after another.
 use lib.ListN.{length}
 use mathlib.Core.List.{List, [], _∷_, _++_}
 use mathlib.Core.Path.{_≡_, refl, sym, ap, subst, _∙_}
 use native.Mathlib.Omega.{arith}
-use Prim.Native.Nat.{ℕ, _+_, _≤_, _<_, min}
+use Prim.Native.Nat.{ℕ, _+_, _<_, min}
 use Rattle.std.proofs.shelf.Lists.{append-assoc, append-nil, length-append, length-push}
 use Rattle.std.specs.declared.option.Option.the-variants.{Some, None}
 use Rattle.queue.proofs.Moves.{appended-none, appended-more}

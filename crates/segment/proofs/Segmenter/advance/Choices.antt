@@ -1,7 +1,7 @@
 use lib.ListN.{length}
 use mathlib.Core.List.{List}
 use mathlib.Core.Path.{_≡_}
-use Prim.Native.Nat.{ℕ, _-_}
+use Prim.Native.Nat.{ℕ}
 use Rattle.queue.specs.Contents.{contents, Removed}
 use Rattle.segment.specs.Segmenter.{Grown}
 use Rattle.segment.proofs.Segmenter.advance.Given as given
