@@ -165,8 +165,8 @@ last-within ss s a = omega (arith, ap length (a .whole), ap length (whole-last s
 pub segments-none : SegmentsOf [] []
 segments-none = record { whole = refl; some = tt; longest = tt; placed = tt }
 
-pub segments-first : (m : ℕ) → SegmentsOf (m ∷ []) (record { mode = m; first = 1; length = 1 } ∷ [])
-segments-first m = record { whole = refl; some = (omega arith, tt); longest = tt; placed = (refl, tt) }
+pub segments-first : (t : Segment) → t .first ≡ 1 → t .length ≡ 1 → SegmentsOf (t .mode ∷ []) (t ∷ [])
+segments-first t f g = record { whole = ap (λ n. replicate n (t .mode) ++ []) g; some = (omega arith, tt); longest = tt; placed = (f, tt) }
 
 pub segments-equal : {ms : List ℕ} (ss : List Segment) (s t : Segment) → SegmentsOf ms (ss ++ s ∷ []) → t .mode ≡ s .mode → t .first ≡ s .first → t .length ≡ s .length + 1 → SegmentsOf (ms ++ t .mode ∷ []) (ss ++ t ∷ [])
 segments-equal ss s t a e f g =
@@ -200,8 +200,8 @@ longer-one ms ss m a =
     ⊎-elim
     (λ e.
     let none : ms ≡ [] = sym (a .whole) ∙ ap (joined modesOf) e in
-    let one : SegmentsOf (ms ++ m ∷ []) (record { mode = m; first = 1; length = 1 } ∷ []) = subst (λ xs. SegmentsOf (xs ++ m ∷ []) (record { mode = m; first = 1; length = 1 } ∷ [])) (sym none) (segments-first m) in
-    (record { mode = m; first = 1; length = 1 } ∷ [], one, omega (arith, ap length e), omega arith))
+    let t : Segment = record { mode = m; first = 1; length = 1 } in
+    (t ∷ [], subst (λ xs. SegmentsOf (xs ++ m ∷ []) (t ∷ [])) (sym none) (segments-first t refl refl), omega (arith, ap length e), omega arith))
     (λ v.
     let rs = v .0 in
     let s = v .1 in

@@ -19,58 +19,55 @@ use Rattle.segment.proofs.Segments.{unique, last-within, segments-none, segmen
 abbrev holding : Segment → ℕ → Segmenter
 holding t n = record { hand = Some t; taken = n }
 
-stands-more : (s s′ : Segmenter) (t : Segment) (m : ℕ) (taken : List ℕ) (put put′ : List Segment) → Stands s taken put → s .taken < limit → s′ ≡ holding t (s .taken + 1) → SegmentsOf (taken ++ m ∷ []) (put′ ++ t ∷ []) → Stands s′ (taken ++ m ∷ []) put′
-stands-more s s′ t m taken put put′ b l e a =
-    let long = length-push taken m in
-    let count : s′ .taken ≡ length (taken ++ m ∷ []) = ap (λ x. x .taken) e ∙ omega (arith, b .count) in
+stands-more : {t : Segment} {n : ℕ} (s s′ : Segmenter) (taken : List ℕ) (put put′ : List Segment) → Stands s taken put → s .taken < limit → s′ ≡ holding t n → n ≡ s .taken + 1 → SegmentsOf (taken ++ t .mode ∷ []) (put′ ++ t ∷ []) → Stands s′ (taken ++ t .mode ∷ []) put′
+stands-more {t} {n} s s′ taken put put′ b l e c a =
+    let all = taken ++ t .mode ∷ [] in
+    let long : length all ≡ length taken + 1 = length-push taken (t .mode) in
+    let some : s′ .hand ≡ Some t = ap (λ x. x .hand) e in
     record {
-      segments = unique (subst (λ h. SegmentsOf (taken ++ m ∷ []) (put′ ++ inHand h)) (sym (ap (λ x. x .hand) e)) a);
-      none = λ n. let some : s′ .hand ≡ Some t = ap (λ x. x .hand) e in let z : _≡_ {A = ℕ} 0 1 = cc in absurd (omega arith);
-      count = count;
+      segments = unique (subst (λ h. SegmentsOf all (put′ ++ inHand h)) (sym some) a);
+      none = λ n. let z : _≡_ {A = ℕ} 0 1 = cc (some, n) in absurd (omega arith);
+      count = ap (λ x. x .taken) e ∙ omega (arith, b .count);
       few = omega (arith, b .count);
     }
 
 -- With none in hand, a mode begins a segment.
-pub grown-first : (s s′ : Segmenter) (q : Queue Segment) (m : ℕ) → s .taken < limit → s .hand ≡ None → s′ ≡ holding (record { mode = m; first = 1; length = 1 }) (s .taken + 1) → Grown s q (m ∷ []) s′ q
-grown-first s s′ q m l n e = record {
+pub grown-first : {t : Segment} {n : ℕ} (s s′ : Segmenter) (q : Queue Segment) (m : ℕ) → s .taken < limit → s .hand ≡ None → s′ ≡ holding t n → n ≡ s .taken + 1 → t .mode ≡ m → t .first ≡ 1 → t .length ≡ 1 → Grown s q (m ∷ []) s′ q
+grown-first {t} {n} s s′ q m l none e c mode first long = subst (λ x. Grown s q (x ∷ []) s′ q) mode (record {
   closed = [];
   appended = appended-none q;
-  count = ap (λ x. x .taken) e;
+  count = ap (λ x. x .taken) e ∙ c;
   stands = λ taken put b.
-      let t : Segment = record { mode = m; first = 1; length = 1 } in
-      let none : taken ≡ [] = b .none n in
-      let nothing : put ++ inHand (s .hand) ≡ [] = sym (b .segments .only [] (subst (λ xs. SegmentsOf xs []) (sym none) segments-none)) in
-      let front : put ++ [] ≡ [] = ap (λ h. put ++ inHand h) (sym n) ∙ nothing in
-      stands-more s s′ t m taken put (put ++ []) b l e (subst (λ ps. SegmentsOf (taken ++ m ∷ []) (ps ++ t ∷ [])) (sym front) (subst (λ xs. SegmentsOf (xs ++ m ∷ []) (t ∷ [])) (sym none) (segments-first m)));
-}
+      let nil : taken ≡ [] = b .none none in
+      let nothing : put ++ inHand (s .hand) ≡ [] = sym (b .segments .only [] (subst (λ xs. SegmentsOf xs []) (sym nil) segments-none)) in
+      let front : put ++ [] ≡ [] = ap (λ h. put ++ inHand h) (sym none) ∙ nothing in
+      stands-more s s′ taken put (put ++ []) b l e c (subst (λ ps. SegmentsOf (taken ++ t .mode ∷ []) (ps ++ t ∷ [])) (sym front) (subst (λ xs. SegmentsOf (xs ++ t .mode ∷ []) (t ∷ [])) (sym nil) (segments-first t first long)));
+})
 
 -- With one in hand, its segments are those put and that one.
 pub with-hand : (s : Segmenter) (h : Segment) (taken : List ℕ) (put : List Segment) → Stands s taken put → s .hand ≡ Some h → SegmentsOf taken (put ++ h ∷ [])
 with-hand s h taken put b e = subst (λ o. SegmentsOf taken (put ++ inHand o)) e (b .segments .are)
 
 -- An equal mode lengthens it.
-pub grown-equal : (s s′ : Segmenter) (q : Queue Segment) (h : Segment) (m n : ℕ) → s .taken < limit → s .hand ≡ Some h → h .mode ≡ m → n ≡ min (h .length + 1) 4294967295 → s′ ≡ holding (record { mode = h .mode; first = h .first; length = n }) (s .taken + 1) → Grown s q (m ∷ []) s′ q
-grown-equal s s′ q h m n l some same long e = record {
+pub grown-equal : {t : Segment} {n : ℕ} (s s′ : Segmenter) (q : Queue Segment) (h : Segment) (m : ℕ) → s .taken < limit → s .hand ≡ Some h → s′ ≡ holding t n → n ≡ s .taken + 1 → t .mode ≡ m → t .mode ≡ h .mode → t .first ≡ h .first → t .length ≡ min (h .length + 1) 4294967295 → Grown s q (m ∷ []) s′ q
+grown-equal {t} {n} s s′ q h m l some e c mode same first long = subst (λ x. Grown s q (x ∷ []) s′ q) mode (record {
   closed = [];
   appended = appended-none q;
-  count = ap (λ x. x .taken) e;
+  count = ap (λ x. x .taken) e ∙ c;
   stands = λ taken put b.
-      let t : Segment = record { mode = h .mode; first = h .first; length = n } in
       let was : SegmentsOf taken (put ++ h ∷ []) = with-hand s h taken put b some in
-      let grown : n ≡ h .length + 1 = omega (arith, last-within put h was, b .count) in
-      stands-more s s′ t m taken put (put ++ []) b l e (subst (λ ps. SegmentsOf (taken ++ m ∷ []) (ps ++ t ∷ [])) (sym (append-nil put)) (subst (λ x. SegmentsOf (taken ++ x ∷ []) (put ++ t ∷ [])) same (segments-equal put h t was refl refl grown)));
-}
+      let grown : t .length ≡ h .length + 1 = omega (arith, last-within put h was, b .count) in
+      stands-more s s′ taken put (put ++ []) b l e c (subst (λ ps. SegmentsOf (taken ++ t .mode ∷ []) (ps ++ t ∷ [])) (sym (append-nil put)) (segments-equal put h t was same first grown));
+})
 
 -- Another mode closes it and begins another.
-pub grown-other : (s s′ : Segmenter) (q q′ : Queue Segment) (h : Segment) (m : ℕ) → s .taken < limit → s .hand ≡ Some h → (h .mode ≡ m → ⊥) → Appended q (h ∷ []) q′ → s′ ≡ holding (record { mode = m; first = s .taken + 1; length = 1 }) (s .taken + 1) → Grown s q (m ∷ []) s′ q′
-grown-other s s′ q q′ h m l some other a e = record {
+pub grown-other : {t : Segment} {n : ℕ} (s s′ : Segmenter) (q q′ : Queue Segment) (h : Segment) (m : ℕ) → s .taken < limit → s .hand ≡ Some h → (h .mode ≡ m → ⊥) → Appended q (h ∷ []) q′ → s′ ≡ holding t n → n ≡ s .taken + 1 → t .mode ≡ m → t .first ≡ s .taken + 1 → t .length ≡ 1 → Grown s q (m ∷ []) s′ q′
+grown-other {t} {n} s s′ q q′ h m l some other a e c mode first long = subst (λ x. Grown s q (x ∷ []) s′ q′) mode (record {
   closed = h ∷ [];
   appended = a;
-  count = ap (λ x. x .taken) e;
-  stands = λ taken put b.
-      let t : Segment = record { mode = m; first = s .taken + 1; length = 1 } in
-      stands-more s s′ t m taken put (put ++ h ∷ []) b l e (segments-other put h t (with-hand s h taken put b some) other (ap (λ n. n + 1) (b .count)) refl);
-}
+  count = ap (λ x. x .taken) e ∙ c;
+  stands = λ taken put b. stands-more s s′ taken put (put ++ h ∷ []) b l e c (segments-other put h t (with-hand s h taken put b some) (λ f. other (f ∙ mode)) (first ∙ ap (λ k. k + 1) (b .count)) long);
+})
 
 -- No mode taken, and some after others.
 pub grown-none : (s : Segmenter) (q : Queue Segment) → Grown s q [] s q
