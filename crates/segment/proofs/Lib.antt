@@ -1,0 +1,3 @@
+pub mod Segments
+mod Steps
+pub mod Calls
