@@ -1,5 +1,5 @@
 use Rattle.logfile.specs.Calls.{unread}
 use Rattle.records.proofs.list.Given as given
 
-abbrev pub μ-loop : given.MeasureT-loop
-μ-loop l = unread (l .reader)
+abbrev pub μ-loop-placed : given.MeasureT-loop-placed
+μ-loop-placed l = unread (l .reader)
