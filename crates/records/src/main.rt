@@ -7,26 +7,30 @@ use logfile::Reader;
 use std::error::AnyError;
 use std::io::Read;
 
-fn list(rt: &LibcRuntime, file: &[u8]) -> Result<(), AnyError> {
+// Prints the records, and answers the fault at which the file cannot be read on, if any.
+fn list(rt: &LibcRuntime, file: &[u8]) -> Result<Option<Fault>, AnyError> {
     let mut reader = Reader::new(file);
     loop {
         match reader.next() {
             Ok(Some(placed)) => println!(rt, "{placed}")?,
-            Ok(None) => return Ok(()),
-            Err(fault) => {
-                let text = format!(rt.alloc(), "{fault}")?;
-                return Err(text.into());
-            }
+            Ok(None) => return Ok(None),
+            Err(fault) => return Ok(Some(fault)),
         }
     }
 }
 
-fn run(rt: &LibcRuntime) -> Result<(), AnyError> {
+fn run(rt: &LibcRuntime) -> Result<Option<Fault>, AnyError> {
     let mut file = Vec::new(rt.alloc());
     rt.stdin().read_to_end(&mut file)?;
     list(rt, file.as_slice())
 }
 
 fn main(rt: LibcRuntime) -> Result<(), AnyError> {
-    rt.report(run(&rt))
+    match rt.report(run(&rt))? {
+        None => Ok(()),
+        Some(fault) => {
+            eprintln!(rt, "{fault}")?;
+            Err("the file is at fault".into())
+        }
+    }
 }
