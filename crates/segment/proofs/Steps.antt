@@ -1,7 +1,7 @@
 -- What modes do to a segmenter, one after another.
 use lib.ListN.{length}
 use mathlib.Core.List.{List, [], _∷_, _++_}
-use mathlib.Core.Path.{_≡_, refl, sym, ap, subst, _∙_}
+use mathlib.Core.Path.{_≡_, sym, ap, subst, _∙_}
 use native.Mathlib.Omega.{arith}
 use Prim.Native.Nat.{ℕ, _+_, _<_, min}
 use Rattle.std.proofs.shelf.Lists.{append-assoc, append-nil, length-append, length-push}

@@ -18,7 +18,7 @@ use Rattle.survivors.specs.Survivors.{HasTip, OnPath, decided, pathTo, taken}
 use Rattle.survivors.specs.declared.tree.Tree.{Tree}
 use Rattle.survivors.specs.declared.Survivors.{Survivors}
 use Rattle.survivors.proofs.Props.{valid-of}
-use Rattle.survivors.proofs.Lists.{counted-one}
+use Rattle.viterbi.proofs.Count.{counted-one}
 use Rattle.survivors.proofs.Paths.{path-length, find, on-place, at-place}
 use Rattle.survivors.proofs.Counts.{spot, spots, spots-many, spots-only, spots-all, spots-once}
 

@@ -71,9 +71,12 @@ module _ {A : Type 0} where
   distinct-append [] ys d e h = e
   distinct-append (x ∷ xs) ys d e h = (λ i. elim (in-append x xs ys i) [ inl j ↦ d .0 j | inr j ↦ h x (inl refl) j ], distinct-append xs ys (d .1) e (λ a i j. h a (inr i) j))
 
--- a count of pairs is no larger than another count of the same pairs
-no-more : {P : ℕ → ℕ → Type 0} (m n : ℕ) (a : Counted P m) (b : Counted P n) → length (a .pairs) ≤ length (b .pairs)
-no-more m n a b = fits-in (a .pairs) (b .pairs) (a .once) (λ c h. b .all (c .0) (c .1) (a .only (c .0) (c .1) h))
+no-more : (P : ℕ → ℕ → Type 0) (m n : ℕ) (a : Counted P m) (b : Counted P n) → length (a .pairs) ≤ length (b .pairs)
+no-more P m n a b = fits-in (a .pairs) (b .pairs) (a .once) (λ c h. b .all (c .0) (c .1) (a .only (c .0) (c .1) h))
+
+-- the number of pairs of a sort is one number
+pub counted-one : (P : ℕ → ℕ → Type 0) (m n : ℕ) → Counted P m → Counted P n → m ≡ n
+counted-one P m n a b = omega (arith, no-more P m n a b, no-more P n m b a, a .many, b .many)
 
 module _ (K : Kind) (M : Meaning) where
   -- the cells of one reading
@@ -204,7 +207,7 @@ module _ (K : Kind) (M : Meaning) where
 
   pub live-cells : LiveCells K M
   live-cells = record {
-    one = λ xs m n a b. omega (arith, a .many, b .many, no-more m n a b, no-more n m b a);
+    one = λ xs m n a b. counted-one (LiveCell K M xs) m n a b;
     none = record { pairs = []; many = refl; once = tt; all = no-cell; only = λ i s h. absurd h };
     found = λ xs t r. record {
       pairs = liveCells K M xs;

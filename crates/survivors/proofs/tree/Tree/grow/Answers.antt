@@ -6,7 +6,6 @@ use lib.ListN.{length}
 use Rattle.survivors.specs.Trees.{Real, Tips, chosen, fromOf, held, tipOf, tipsOf}
 use Rattle.std.proofs.shelf.Lists.{length-map}
 use Rattle.survivors.proofs.Decides.{blank-tips, no-tips}
-use Rattle.survivors.specs.declared.tree.Tree.{Tree}
 use Rattle.survivors.proofs.Sprouts.{holding, grown-all}
 use Rattle.survivors.proofs.tree.Tree.grow.Needs as need
 

@@ -2,7 +2,6 @@ use Prim.Native.Nat.{ℕ}
 use native.Mathlib.Omega.{arith}
 use Rattle.survivors.specs.Cells.{at, plus}
 use Rattle.survivors.specs.Trees.{Holds}
-use Rattle.survivors.specs.declared.tree.Tree.{Tree}
 use Rattle.survivors.proofs.Shares.{kept-kept}
 use Rattle.survivors.proofs.Freed.{gone-kept}
 use Rattle.survivors.proofs.Releases.{room-left, stay-kept, stay, low-gone, low-heirs, width-left, first-left, end, p-below, heirs-left, moved-gone, on, falls}

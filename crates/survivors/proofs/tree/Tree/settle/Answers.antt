@@ -1,5 +1,4 @@
 use native.Mathlib.Omega.{arith}
-use Rattle.survivors.specs.declared.tree.Tree.{Tree}
 use Rattle.survivors.proofs.Decides.{first-below, room-below, deep, settle-on, settle-end}
 use Rattle.survivors.proofs.Paths.{parted}
 use Rattle.survivors.proofs.tree.Tree.settle.Needs as need
