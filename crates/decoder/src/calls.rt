@@ -17,6 +17,9 @@ use model::Model;
 use survivors::Survivors;
 use trellis::Rows;
 
+/// The cells of the survivor tree.
+const CELLS: usize = 1024;
+
 impl Decoder {
     /// No readings, and no modes.
     pub fn new() -> Self
@@ -52,7 +55,8 @@ impl Decoder {
         ensures { λ r. ⌜ ((xs : Log) → Stands (C·CostKind .kind (now (kind .entry))) (M·Model .meaning (now (model .entry))) xs (now (self .entry)) → Stepped (C·CostKind .kind (now (kind .entry))) (M·Model .meaning (now (model .entry))) xs reading at (now (self .entry)) r (now (self .exit))) ⌝ }
     {
         let modes = self.rows.modes();
-        if self.live() + modes > 1024 {
+        let needed = self.live() + modes;
+        if needed > CELLS {
             return Err(Fault::TreeFull(at));
         }
         let mut from = [None; 32];
