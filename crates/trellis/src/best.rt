@@ -3,6 +3,7 @@ ghost use mathlib.Core.Bool.{true};
 ghost use Prim.Native.Nat.{ℕ};
 ghost use Rattle.std.specs.Options.{isSome};
 ghost use Rattle.std.specs.declared.option.Option.the-variants.{Some};
+ghost use Rattle.cost.specs.Kind.{Compared};
 ghost use Rattle.trellis.specs.Carried.{Through, Better, Arrived, OneOf, fromOf};
 use cost::Charge;
 use cost::CostKind;
@@ -23,6 +24,13 @@ pub fn through<C: CostKind>(kind: &C, total: Option<Total>, passage: Charge) -> 
     kind.charged(total?, passage)
 }
 
+/// Whether a total is less than the best so far.
+fn beats<C: CostKind>(kind: &C, total: Total, best: Total) -> bool
+    ensures { λ r. ⌜ Compared (C·CostKind .kind (now (kind .entry))) total best r ⌝ }
+{
+    kind.less(total, best)
+}
+
 /// The better of the best so far and the total of the next mode, which loses a tie.
 pub fn better<C: CostKind>(
     kind: &C,
@@ -39,7 +47,7 @@ pub fn better<C: CostKind>(
     match best {
         None => Some(Best { total, from }),
         Some(b) => {
-            if kind.less(total, b.total) {
+            if beats(kind, total, b.total) {
                 Some(Best { total, from })
             } else {
                 best
