@@ -1,4 +1,6 @@
 //! Decodes the worked logs and many random logs, and compares what it finds with what it should find.
+#![tactic(auto)]
+
 mod engine;
 mod random;
 mod refused;

@@ -4,7 +4,7 @@ ghost use Rattle.std.specs.Prelude.{◌<◌};
 use super::{Score, engine};
 use cost::{CostKind, Graded, Strict};
 use decoder::Decoder;
-use model::{DenseModel, DenseTable, Model};
+use model::{DenseTable, Model};
 use reference::all_paths;
 use reference::full_table::FullTable;
 

@@ -2,7 +2,7 @@
 use super::Score;
 use super::worked::SAW;
 use fault::Fault;
-use model::{Banded, BandedModel, DenseModel, DenseTable, Model, Parameters};
+use model::{Banded, DenseTable, Model, Parameters};
 
 // Prints what a check says, and notes whether it names this fault and the model has no modes and no values.
 fn show<M: Model>(

@@ -2,7 +2,7 @@
 use super::{Score, engine};
 use cost::{CostKind, Graded, Strict};
 use decoder::Decoder;
-use model::{Banded, BandedModel, DenseModel, DenseTable, Model, Parameters};
+use model::{Banded, DenseTable, Model, Parameters};
 use reference::full_table::FullTable;
 
 // A log with the answers that it should have: the modes and the total of its cheapest path, and the numbers of decided

@@ -1,5 +1,5 @@
 -- The kind Graded.
-use Rattle.std.specs.Prelude.{◌≡◌, ℕ, ◌≤◌, Some, None, Option, refl}
+use Rattle.std.specs.Prelude.{◌≡◌, ◌≤◌, Some, Option, refl}
 use Rattle.std.proofs.Common.{ap, arith}
 use Rattle.cost.specs.declared.charge.Charge.{Charge}
 use Rattle.cost.specs.declared.charge.Total.{Total}

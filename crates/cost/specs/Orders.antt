@@ -1,6 +1,6 @@
 -- The order of numbers, and the order of pairs of numbers by the first and then by the second. `compare` computes.
 use Rattle.std.specs.Prelude.{◌≡◌, ℕ, ◌+◌, ◌<◌, Bool, true, false, ◌⊎◌, nat_lt, refl}
-use Rattle.std.proofs.Common.{sym, ◌∙◌, ap, inl, inr, zero_add, arith}
+use Rattle.std.proofs.Common.{sym, ◌∙◌, ap, inl, inr, zero-add, arith}
 use Rattle.std.proofs.lemmas.Bool.{ltb-true, ltb-false}
 
 abbrev by_tests : (a b : ℕ) (s t : Bool) → nat_lt a b ≡ s → nat_lt b a ≡ t → (a < b) ⊎ (a ≡ b) ⊎ (b < a)
@@ -56,4 +56,4 @@ add_less_pair a b c (inl h) = inl (omega arith)
 add_less_pair a b c (inr h) = inr (ap (λ z. z + c.first) h.0, omega (arith, h.1))
 
 pub zero_add_pair : (c : Pair) → add_pair (pair 0 0) c ≡ c
-zero_add_pair c = same_pair _ c (zero_add c.first) (zero_add c.second)
+zero_add_pair c = same_pair _ c (zero-add c.first) (zero-add c.second)

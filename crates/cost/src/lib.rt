@@ -1,4 +1,6 @@
 //! Charges, what they cost, and how costs are added, compared and shown.
+#![tactic(auto)]
+
 mod charge;
 mod graded;
 mod kind;

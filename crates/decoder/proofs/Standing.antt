@@ -1,5 +1,5 @@
 -- How the decoder comes to stand after one more reading.
-use Rattle.std.proofs.Common.{◌≡◌, ℕ, ◌+◌, ◌-◌, ◌<◌, ◌≤◌, ◌↔◌, List, [], ◌∷◌, ◌++◌, length, get_or, take, Some, None, Option, sym, refl, ap, ◌∙◌, subst, ⊎_elim, arith}
+use Rattle.std.proofs.Common.{◌≡◌, ℕ, ◌-◌, ◌<◌, ◌≤◌, ◌↔◌, List, [], ◌∷◌, ◌++◌, length, get_or, take, Some, None, Option, sym, refl, ap, ◌∙◌, subst, ⊎_elim, arith}
 use Rattle.std.proofs.lemmas.Bool.{cases_lt}
 use Rattle.std.proofs.lemmas.List.{append_assoc, length-append, length_push, length-take, get_or-append_right, get_or-take, get_or_past, nil_from_length, same_from_push}
 use Rattle.cost.specs.declared.charge.Total.{Total}
@@ -12,8 +12,7 @@ use Rattle.viterbi.proofs.Steps.{not_none, some_same, split_then}
 use Rattle.viterbi.proofs.Algorithm.{end_below}
 use Rattle.viterbi.proofs.Growth.{exists, one_step, survivor_is, grows}
 use Rattle.trellis.specs.declared.best.Best.{Best}
-use Rattle.viterbi.specs.Limits.{READINGS}
-use Rattle.trellis.specs.Rows.{First, Next, EndsAt}
+use Rattle.trellis.specs.Rows.{READINGS, First, Next, EndsAt}
 use Rattle.trellis.specs.State.{present}
 use Rattle.survivors.specs.declared.Survivors.{Survivors}
 use Rattle.survivors.specs.Survivors.{HasTip, OnPath, PathOf, Grown, Settled, Finished, path_to, taken}

@@ -12,15 +12,14 @@ use Rattle.viterbi.specs.Paths.{Reading, Log}
 use Rattle.viterbi.proofs.Count.{live_cells_lem}
 use Rattle.trellis.specs.declared.Rows.{Rows}
 use Rattle.trellis.specs.declared.best.Best.{Best}
-use Rattle.viterbi.specs.Limits.{CELLS, READINGS, Full}
-use Rattle.trellis.specs.Rows.{First, Advances, Ends, Marked, Tells, total_at, from_at}
+use Rattle.trellis.specs.Rows.{READINGS, First, Advances, Ends, Marked, Tells, total_at, from_at}
 use Rattle.trellis.specs.State.{present, Kept}
 use Rattle.survivors.specs.declared.Survivors.{Survivors}
 use Rattle.survivors.specs.Survivors.{HasTip, OnPath, MayGrow, Grown, Settled, Finished, taken}
 use Rattle.survivors.specs.Survivors as tree
 use Rattle.decoder.specs.declared.Decoder.{Decoder}
 use Rattle.decoder.specs.Linked.{Linked}
-use Rattle.decoder.specs.Decoder.{Stands, Ended, Totalled, Goes, Advanced, BackedAfter, Unchanged, Stepped}
+use Rattle.decoder.specs.Decoder.{CELLS, Stands, Ended, Totalled, Goes, Advanced, BackedAfter, Full, Unchanged, Stepped}
 use Rattle.decoder.proofs.Standing.{in_taken, GoesOn, first_goes, next_goes, stepped, path_ended}
 
 -- what the ghost field gives

@@ -8,14 +8,21 @@ use Rattle.cost.specs.Kind.{Kind}
 use Rattle.model.specs.Meaning.{Meaning}
 use Rattle.viterbi.specs.Lists.{Counted}
 use Rattle.viterbi.specs.Paths.{Reading, Log, Reachable, CheapestTo, CheapestOf, Decided, Live}
-use Rattle.viterbi.specs.Limits.{PLACES, READINGS, Full, Stuck}
-use Rattle.trellis.specs.Rows.{First, Next}
+use Rattle.trellis.specs.Rows.{READINGS, First, Next}
 use Rattle.trellis.specs.Rows as rows
 use Rattle.trellis.specs.State.{present}
 use Rattle.trellis.specs.State as state
 use Rattle.survivors.specs.Survivors.{HasTip, OnPath, path_to, taken}
 use Rattle.survivors.specs.Survivors as tree
 use Rattle.decoder.specs.declared.Decoder.{Decoder}
+
+-- The cells of the survivor tree.
+abbrev pub CELLS : ℕ
+CELLS = 1024
+
+-- The places of the ring.
+abbrev pub PLACES : ℕ
+PLACES = 4096
 
 -- The last 4,096 of the modes d stand at their places in the ring.
 abbrev pub InRing : List ℕ → List ℕ → Type 0
@@ -62,6 +69,16 @@ module _ (K : Kind) (M : Meaning) where
     pub settled : tree.decided d.tree ≡ length xs
     pub ready : InRing path d.ring
     pub none_live : Counted (OnPath d.tree) 0
+
+  -- Live cells and modes together are more than the tree has cells.
+  pub record Full (xs : Log) : Type 0 where
+    pub cells : ℕ
+    pub live : Live K M xs cells
+    pub more : CELLS < cells + M.modes
+
+  -- No mode would be reachable after one more reading r.
+  abbrev pub Stuck : Log → Reading → Type 0
+  Stuck xs r = (t : ℕ) → Reachable K M (xs ++ r ∷ []) t → ⊥
 
   -- The row after one more reading, with predecessors and whether a mode is reachable.
   abbrev pub Goes : Log → Reading → List (Option Total) → List (Option ℕ) → Bool → Type 0

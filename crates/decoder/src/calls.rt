@@ -1,10 +1,10 @@
 ghost use Rattle.std.specs.Prelude.{◌≡◌, ℕ, ◌%◌, ◌<◌, min, [], length, slice_index};
 ghost use Rattle.viterbi.specs.Lists.{Counted};
 ghost use Rattle.viterbi.specs.Paths.{Log};
-ghost use Rattle.viterbi.specs.Limits.{MODES, PLACES, READINGS};
+ghost use Rattle.trellis.specs.Rows.{MODES, READINGS};
 ghost use Rattle.survivors.specs.Survivors.{OnPath, taken};
 ghost use Rattle.survivors.specs.Survivors as tree;
-ghost use Rattle.decoder.specs.Decoder.{Fresh, Stands, Stepped, Ended};
+ghost use Rattle.decoder.specs.Decoder.{PLACES, Fresh, Stands, Stepped, Ended};
 
 use super::Decoder;
 use super::row::next_row;

@@ -1,4 +1,6 @@
 //! The engine: one reading at a time, the rows of totals, the survivor tree and the ring of ready modes in step.
+#![tactic(auto)]
+
 ghost use Rattle.decoder.specs.Linked.{Linked};
 
 mod calls;

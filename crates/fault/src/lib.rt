@@ -1,4 +1,6 @@
 //! Every refusal of the estimator in one type: what went wrong, which layer refuses, and at which place.
+#![tactic(auto)]
+
 ghost use Rattle.std.specs.Prelude.{◌≡◌};
 ghost use Rattle.fault.specs.Table.{row};
 

@@ -2,7 +2,7 @@
 use Rattle.std.proofs.Common.{ℕ, ◌+◌, ◌*◌, ◌<◌, ◌≤◌, inl, inr, arith}
 use Rattle.std.proofs.lemmas.Bool.{cases_lt}
 use Rattle.model.specs.declared.banded.Parameters.{Parameters}
-use Rattle.model.specs.Banded.{OutOfRange, AllInRange, Uncut, distance}
+use Rattle.model.specs.Banded.{AllInRange, Uncut, distance}
 use Rattle.model.proofs.Products.{product}
 
 at_most : (a b : ℕ) → (b < a → ⊥) → a ≤ b

@@ -1,5 +1,5 @@
 -- The banded model.
-use Rattle.std.specs.Prelude.{◌≡◌, ℕ, ◌+◌, ◌-◌, ◌*◌, ◌<◌, ◌≤◌, Bool, true, false, cond, ◌⊎◌, List, [], ◌∷◌, ◌==◌, nat_lt, slice_index_or}
+use Rattle.std.specs.Prelude.{ℕ, ◌+◌, ◌-◌, ◌*◌, ◌<◌, ◌≤◌, cond, ◌⊎◌, List, [], ◌∷◌, ◌==◌, nat_lt, slice_index_or}
 use Rattle.cost.specs.declared.charge.Charge.{Charge}
 use Rattle.cost.specs.Charges.{charge}
 use Rattle.model.specs.declared.banded.Parameters.{Parameters}

@@ -2,7 +2,7 @@
 use Rattle.std.specs.Prelude.{◌≡◌, ℕ, ◌+◌, ◌*◌, ◌/◌, ◌%◌, ◌<◌, ◌≤◌, List, [], ◌∷◌, length, Err, Result, ◌≢◌, slice_index}
 use Rattle.fault.specs.declared.Fault.{Fault}
 use Rattle.fault.specs.declared.Fault.TheVariants.{TableShape, TableLength, TableEntry}
-use Rattle.fault.specs.Checks.{Check, ◌when◌, InOrder, RefusesFirst}
+use Rattle.fault.specs.Checks.{◌when◌, InOrder, RefusesFirst}
 use Rattle.cost.specs.declared.charge.Charge.{Charge}
 use Rattle.cost.specs.Charges.{charge}
 use Rattle.model.specs.Meaning.{Meaning, within}

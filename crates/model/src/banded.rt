@@ -4,7 +4,7 @@ ghost use Rattle.fault.specs.declared.Fault.TheVariants.{Parameter};
 ghost use Rattle.model.specs.Meaning.{MadeOf, within_outside};
 ghost use Rattle.model.specs.Banded.{banded, limit, limits, OutOfRange, AllInRange, Uncut};
 
-use super::Model;
+use super::Model as ModeModel;
 use cost::Charge;
 use fault::Fault;
 
@@ -98,7 +98,7 @@ impl Banded {
     }
 }
 
-pub impl Model for Banded as BandedModel {
+impl ModeModel for Banded {
     ghost meaning = { λ b. banded b.parameters };
 
     ghost outside = { λ b. within_outside _ _ _ _ _ };

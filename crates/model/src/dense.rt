@@ -4,7 +4,7 @@ ghost use Rattle.fault.specs.declared.Fault.TheVariants.{TableEntry};
 ghost use Rattle.model.specs.Meaning.{MadeOf, within_outside};
 ghost use Rattle.model.specs.Dense.{MOST_ENTRY, size, dense, charge_at, SoundTable, CheckedTable, UncutTable};
 
-use super::Model;
+use super::Model as ModeModel;
 use cost::Charge;
 use fault::Fault;
 
@@ -73,7 +73,7 @@ impl<'a> DenseTable<'a> {
     }
 }
 
-pub impl<'a> Model for DenseTable<'a> as DenseModel {
+impl<'a> ModeModel for DenseTable<'a> {
     ghost meaning = { λ d. dense d.modes d.values d.numbers.now };
 
     ghost outside = { λ d. within_outside _ _ _ _ _ };

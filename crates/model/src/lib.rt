@@ -1,4 +1,6 @@
 //! Models: what starts, passages and readings cost, by a table or by a formula.
+#![tactic(auto)]
+
 ghost use Rattle.std.specs.Prelude.{◌≡◌};
 ghost use Rattle.model.specs.Meaning.{Meaning, OutsideIsWorst};
 

@@ -1,5 +1,5 @@
 -- What a queue holds, and what puts and takes do to it.
-use Rattle.std.specs.Borrow.{Bor}
+use Rattle.std.specs.Borrow.{MutBor}
 use Rattle.std.specs.Prelude.{◌≡◌, ℕ, ◌+◌, ◌-◌, cond, List, [], ◌∷◌, ◌++◌, length, take, drop, nat_lt, slice_set}
 use Rattle.queue.specs.declared.Queue.{Queue}
 
@@ -16,7 +16,7 @@ unfoldable pub contents : {X : Type 0} → Queue X → List X
 contents q = ring q.slots.now q.head q.len
 
 -- The slice that the queue was lent.
-abbrev pub memory : {X : Type 0} → Queue X → Bor (List X)
+abbrev pub memory : {X : Type 0} → Queue X → MutBor (List X)
 memory q = q.slots
 
 -- The number of elements that it has room for, those that it holds included.

@@ -1,4 +1,6 @@
 //! A first-in first-out queue of any kind of element over memory that the caller lends.
+#![tactic(auto)]
+
 ghost use Rattle.std.specs.Prelude.{◌≡◌, ◌+◌, ◌<◌, [], ◌∷◌, length, drop, Decides, MatchOption, MatchResult};
 ghost use Rattle.fault.specs.declared.Fault.TheVariants.{QueueFull};
 ghost use Rattle.queue.specs.Contents.{contents, capacity, memory, place, start, Appended, Removed};

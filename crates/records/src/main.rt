@@ -1,9 +1,11 @@
 //! Prints the records of a log file that stands on standard input, each with its place. Where the file is at fault,
 //! the fault is printed on standard error behind the records before it, and the program ends with status 1.
-use anyhow::anyhow;
+#![tactic(auto)]
+
 use fault::Fault;
 use logfile::Reader;
 use std::io::Read;
+use std::process::ExitCode;
 
 // Prints the records, and answers the fault at which the file cannot be read on, if any.
 fn list(rt: &HostRuntime, file: &[u8]) -> anyhow::Result<Option<Fault>> {
@@ -23,12 +25,12 @@ fn run(rt: &HostRuntime) -> anyhow::Result<Option<Fault>> {
     list(rt, file.as_slice())
 }
 
-fn main(rt: HostRuntime) -> anyhow::Result<()> {
+fn main(rt: HostRuntime) -> anyhow::Result<ExitCode> {
     match run(&rt)? {
-        None => Ok(()),
+        None => Ok(ExitCode::SUCCESS),
         Some(fault) => {
             eprintln!(rt; "{fault}")?;
-            Err(anyhow!("the file is at fault"))
+            Ok(ExitCode::FAILURE)
         }
     }
 }

@@ -1,4 +1,6 @@
 //! Two slow decoders, written straight from the rules, to compare the estimator's answers with.
+#![tactic(auto)]
+
 pub mod all_paths;
 pub mod full_table;
 

@@ -1,6 +1,6 @@
 -- The segments of a list: there is one way only, and what one more mode does to them.
 use Rattle.std.proofs.Common.{◌≡◌, ℕ, zero, suc, ◌+◌, ◌<◌, ◌≤◌, ◌⊎◌, List, [], ◌∷◌, ◌++◌, length, replicate, sym, refl, ap, ◌∙◌, subst, inl, inr, ⊎_elim, arith}
-use Rattle.std.specs.List.{flat_map, AllByRecursion as All}
+use Rattle.std.specs.List.{flat_map, AllByRecursion}
 use Rattle.std.proofs.ByRecursion.{All-push}
 use Rattle.std.proofs.lemmas.List.{append_assoc, append-nil, flat_map_more, length-append, length_push, length-replicate, replicate_more, same_from_push}
 use Rattle.std.proofs.lemmas.Bool.{cases_eq}
@@ -8,7 +8,7 @@ use Rattle.segment.specs.declared.Segment.{Segment}
 use Rattle.segment.specs.Segments.{modes_of, NeighboursDiffer, PlacedFrom, SegmentsOf, LongestStretch, TheSegments}
 
 abbrev Some : List Segment → Type 0
-Some ss = All (λ s. 0 < s.length) ss
+Some ss = AllByRecursion (λ s. 0 < s.length) ss
 
 -- What a list begins with.
 
@@ -127,7 +127,7 @@ stretch ms rs s ss a =
       ends = λ xs e. rest_differs s ss (differ_rest rs (s ∷ ss) a.longest) parts.1.1 (xs, e);
     }
 
-all_stretches : (ms : List ℕ) (rs ss : List Segment) → SegmentsOf ms (rs ++ ss) → All (LongestStretch ms) ss
+all_stretches : (ms : List ℕ) (rs ss : List Segment) → SegmentsOf ms (rs ++ ss) → AllByRecursion (LongestStretch ms) ss
 all_stretches ms rs [] a = tt
 all_stretches ms rs (s ∷ ss) a = (stretch ms rs s ss a, all_stretches ms (rs ++ s ∷ []) ss (subst (SegmentsOf ms) (sym (append_assoc rs (s ∷ []) ss)) a))
 

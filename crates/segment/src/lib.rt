@@ -1,4 +1,6 @@
 //! Segments of a list of modes: its longest stretches of one mode.
+#![tactic(auto)]
+
 ghost use Rattle.std.specs.Prelude.{◌≡◌, ◌+◌, ◌<◌, [], ◌∷◌, Some, MatchResult};
 ghost use Rattle.fault.specs.declared.Fault.TheVariants.{QueueFull};
 ghost use Rattle.segment.specs.Segmenter.{limit, Stands, Grown, Blocked, Advanced, Ended, EndBlocked};

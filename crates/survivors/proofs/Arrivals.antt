@@ -1,5 +1,5 @@
 -- The tree after a cell is attached.
-use Rattle.std.proofs.Common.{◌≡◌, ℕ, ◌+◌, ◌-◌, ◌<◌, Bool, false, cond, ltb, ◌≢◌, ◌⊎◌, List, get_or, sym, refl, ap, ◌∙◌, ⊎_elim, arith}
+use Rattle.std.proofs.Common.{◌≡◌, ℕ, ◌+◌, ◌-◌, ◌<◌, Bool, false, cond, ltb, ◌≢◌, List, get_or, sym, refl, ap, ◌∙◌, ⊎_elim, arith}
 use Rattle.std.proofs.lemmas.Bool.{cases_eq, lt-ltb, le-ltb, ltb-true, ltb-false}
 use Rattle.survivors.specs.Sums.{tally}
 use Rattle.survivors.specs.Cells.{Links, Shape, Stack, at, in_use, one, owner, share, under}

@@ -1,8 +1,8 @@
 -- The tree with one tip alone, and what `finish` leaves.
-use Rattle.std.proofs.Common.{◌≡◌, ℕ, suc, ◌+◌, ◌-◌, ◌<◌, ◌≤◌, ◌≢◌, ◌⊎◌, List, [], ◌++◌, map, length, get_or, set, Some, None, Option, sym, ap, ◌∙◌, subst, ⊎_elim, append-nil, arith}
+use Rattle.std.proofs.Common.{◌≡◌, ℕ, suc, ◌+◌, ◌-◌, ◌<◌, ◌≤◌, ◌≢◌, List, [], ◌++◌, map, length, get_or, set, Some, None, Option, sym, ap, ◌∙◌, subst, ⊎_elim, append-nil, arith}
 use Rattle.std.proofs.lemmas.Bool.{cases_eq, cases_lt}
 use Rattle.std.proofs.lemmas.List.{length-set, get_or-set_same, get_or-set_other, map-set}
-use Rattle.survivors.specs.Cells.{at, path, plus}
+use Rattle.survivors.specs.Cells.{path, plus}
 use Rattle.survivors.specs.Ring.{Written}
 use Rattle.survivors.specs.Trees.{Apart, Ended, Holds, Settling, Shed, Tips, Valid, both, held, path_of, tip_at, tip_of, tips_of}
 use Rattle.survivors.specs.declared.tree.Tree.{Tree}

@@ -1,5 +1,5 @@
 -- What holds of all survivors, by the invariant in their type.
-use Rattle.std.proofs.Common.{◌≡◌, ℕ, suc, ◌+◌, ◌-◌, ◌<◌, ◌≤◌, true, [], ◌∷◌, ◌++◌, length, get_or, is_some as option_is_some, Some, None, Option, sym, refl, ap, ◌∙◌, subst, ⊎_elim, arith}
+use Rattle.std.proofs.Common.{◌≡◌, ℕ, suc, ◌+◌, ◌-◌, ◌<◌, ◌≤◌, true, [], ◌∷◌, ◌++◌, length, get_or, is_some, Some, None, Option, sym, refl, ap, ◌∙◌, subst, ⊎_elim, arith}
 use Rattle.std.proofs.lemmas.Bool.{cases_lt}
 use Rattle.std.proofs.lemmas.List.{length-map, get_or-map, get_or_past, nil_from_length}
 use Rattle.viterbi.specs.Lists.{In, Counted, EndsIn}
@@ -18,13 +18,13 @@ pub valid : (s : Survivors) → Valid s.tree
 valid s = valid_of s.tree s.valid
 
 -- a tip as a number
-is_cell : (o : Option ℕ) → option_is_some o ≡ true → ((c : ℕ) → o ≡ Some c → c < 1024) → tip_of o < 1024
+is_cell : (o : Option ℕ) → is_some o ≡ true → ((c : ℕ) → o ≡ Some c → c < 1024) → tip_of o < 1024
 is_cell (Some c) h r = r c refl
 is_cell None h r = absurd (let z : ◌≡◌ {A = ℕ} 0 1 = cc in omega arith)
 
-is_some : (o : Option ℕ) → tip_of o < 1024 → option_is_some o ≡ true
-is_some (Some c) l = refl
-is_some None l = absurd (omega arith)
+tip_is_some : (o : Option ℕ) → tip_of o < 1024 → is_some o ≡ true
+tip_is_some (Some c) l = refl
+tip_is_some None l = absurd (omega arith)
 
 module _ (t : Tree) (r : Valid t) (u : ℕ) where
   long : length t.tips ≡ 32
@@ -33,24 +33,24 @@ module _ (t : Tree) (r : Valid t) (u : ℕ) where
   read : u < 32 → tip_at t u ≡ tip_of (get_or t.tips u None)
   read l = get_or-map tip_of t.tips u None 0 (omega (arith, long))
 
-  pub tip_mode : option_is_some (get_or t.tips u None) ≡ true → u < 32
+  pub tip_mode : is_some (get_or t.tips u None) ≡ true → u < 32
   tip_mode h = ⊎_elim
       (λ (l : u < 32). l)
       (λ (l : 32 ≤ u). absurd (let e = get_or_past t.tips u None (omega (arith, long)) in let z : ◌≡◌ {A = ℕ} 0 1 = cc in omega arith))
       (cases_lt u 32)
 
-  pub tip_cell : option_is_some (get_or t.tips u None) ≡ true → tip_at t u < 1024
+  pub tip_cell : is_some (get_or t.tips u None) ≡ true → tip_at t u < 1024
   tip_cell h = rw (read (tip_mode h)) (is_cell (get_or t.tips u None) h (r.real u))
 
   -- and only modes that the last reading had
-  pub tip_modes : option_is_some (get_or t.tips u None) ≡ true → u < t.modes
+  pub tip_modes : is_some (get_or t.tips u None) ≡ true → u < t.modes
   tip_modes h = ⊎_elim
       (λ (l : u < t.modes). l)
       (λ (l : t.modes ≤ u). absurd (omega (arith, tip_cell h, r.tips.beyond u (tip_mode h) l)))
       (cases_lt u t.modes)
 
-  pub cell_tip : u < 32 → tip_at t u < 1024 → option_is_some (get_or t.tips u None) ≡ true
-  cell_tip l m = is_some (get_or t.tips u None) (omega (arith, read l))
+  pub cell_tip : u < 32 → tip_at t u < 1024 → is_some (get_or t.tips u None) ≡ true
+  cell_tip l m = tip_is_some (get_or t.tips u None) (omega (arith, read l))
 
 -- the decided readings were taken
 pub decided_taken : (s : Survivors) → decided s ≤ taken s

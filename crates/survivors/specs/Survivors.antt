@@ -1,5 +1,5 @@
 -- The survivors as a caller sees them: which modes have tips, the paths that these stand for, and what each call makes of them.
-use Rattle.std.specs.Prelude.{◌≡◌, ℕ, ◌+◌, ◌-◌, ◌^◌, ◌<◌, ◌≤◌, true, List, [], ◌∷◌, ◌++◌, length, get_or, is_some, Some, None, Option, slice_index_or}
+use Rattle.std.specs.Prelude.{◌≡◌, ℕ, ◌+◌, ◌-◌, ◌^◌, ◌<◌, ◌≤◌, true, List, [], ◌∷◌, ◌++◌, length, slice_index, is_some, Some, None, Option, slice_index_or}
 use Rattle.viterbi.specs.Lists.{Counted, LongestShared}
 use Rattle.survivors.specs.Ring.{Written}
 use Rattle.survivors.specs.Trees.{path_of}
@@ -31,7 +31,7 @@ pub record OnPath (s : Survivors) (i m : ℕ) : Type 0 where
   pub tip : HasTip s to
   pub undecided : decided s ≤ i
   pub inside : i < taken s
-  pub lies : get_or (path_to s to) (i - decided s) 0 ≡ m
+  pub lies : slice_index (path_to s to) (i - decided s) ≡ m
 
 -- No reading is taken, no mode has a tip, and nothing is live.
 pub record Blank (s : Survivors) : Type 0 where

@@ -1,5 +1,5 @@
 -- The inner tree: its invariant, and what each of its methods keeps and changes.
-use Rattle.std.specs.Prelude.{◌≡◌, ℕ, ◌+◌, ◌-◌, ◌^◌, ◌<◌, ◌≤◌, cond, ◌≢◌, List, [], ◌∷◌, ◌++◌, map, length, get_or, Some, None, Option, ◌==◌, slice_index, slice_index_or}
+use Rattle.std.specs.Prelude.{◌≡◌, ℕ, ◌+◌, ◌-◌, ◌^◌, ◌<◌, ◌≤◌, cond, ◌≢◌, List, [], ◌∷◌, ◌++◌, map, length, Some, None, Option, ◌==◌, slice_index, slice_index_or}
 use Rattle.survivors.specs.Sums.{tally}
 use Rattle.survivors.specs.Ring.{Written}
 use Rattle.survivors.specs.Cells.{Kept, Links, at, path, plus}
@@ -178,7 +178,7 @@ pub record Apart (s : Tree) : Type 0 where
   pub vl : v < 32
   pub utip : tip_at s u < 1024
   pub vtip : tip_at s v < 1024
-  pub differ : get_or (path_of s u) 0 0 ≢ slice_index (path_of s v) 0
+  pub differ : slice_index (path_of s u) 0 ≢ slice_index (path_of s v) 0
 
 -- The whole path to the mode best is decided and written.
 pub record Ended (s : Tree) (best : ℕ) (ring : List ℕ) (t : Tree) (ring' : List ℕ) : Type 0 where

@@ -1,4 +1,6 @@
 //! The survivor tree of an online Viterbi decoder: the undecided parts of the cheapest paths to all reachable modes, in 1,024 cells.
+#![tactic(auto)]
+
 ghost use Rattle.survivors.specs.Trees.{Valid};
 
 mod calls;

@@ -5,10 +5,17 @@ use Rattle.cost.specs.Kind.{Kind, and_then, sum, carried_of}
 use Rattle.model.specs.Meaning.{Meaning}
 use Rattle.viterbi.specs.Lists.{EndsIn}
 use Rattle.viterbi.specs.Paths.{Reading, Log, Reachable, CheapestTo, CheapestOf, Chosen, cost}
-use Rattle.viterbi.specs.Limits.{READINGS}
 use Rattle.viterbi.specs.Algorithm.{least_of}
 use Rattle.trellis.specs.declared.best.Best.{Best}
 use Rattle.trellis.specs.Carried.{Way, from, carried_way, HasRoom, best_total, best_from}
+
+-- The most modes that a row has room for.
+abbrev pub MODES : ℕ
+MODES = 32
+
+-- The most readings of a log.
+abbrev pub READINGS : ℕ
+READINGS = 1000000
 
 -- The total in t, if there is one.
 abbrev pub total_at : List (Option Total) → ℕ → Option Total

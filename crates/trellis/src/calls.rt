@@ -1,6 +1,5 @@
 ghost use Rattle.std.specs.Prelude.{◌≡◌, min};
-ghost use Rattle.viterbi.specs.Limits.{MODES};
-ghost use Rattle.trellis.specs.Rows.{Backed, Advances, First, Ends, Marked, AllBacked, AllThemselves};
+ghost use Rattle.trellis.specs.Rows.{MODES, Backed, Advances, First, Ends, Marked, AllBacked, AllThemselves};
 ghost use Rattle.trellis.specs.State.{present, other, Kept, Turned};
 
 use super::Rows;

@@ -1,4 +1,6 @@
 //! One reading of the trellis: from the totals of all modes to the next totals, and the predecessor of each mode.
+#![tactic(auto)]
+
 ghost use Rattle.std.specs.Prelude.{◌≤◌};
 
 mod best;

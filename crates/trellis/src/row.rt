@@ -1,8 +1,7 @@
 ghost use Rattle.std.specs.Prelude.{◌≡◌, ℕ, ◌≤◌, [], ◌∷◌, Some};
 ghost use Rattle.cost.specs.Kind.{and_then, carried_of};
 ghost use Rattle.viterbi.specs.Paths.{cost};
-ghost use Rattle.viterbi.specs.Limits.{MODES};
-ghost use Rattle.trellis.specs.Rows.{Into, Entered, Backed, Advances, First, Ends, Marked, AllBacked, AllThemselves, Beyond};
+ghost use Rattle.trellis.specs.Rows.{MODES, Into, Entered, Backed, Advances, First, Ends, Marked, AllBacked, AllThemselves, Beyond};
 ghost use Rattle.trellis.specs.Carried.{best_total, best_from};
 
 use super::best::{Best, arrived, better, through};

@@ -1,12 +1,12 @@
 -- Viterbi's algorithm finds the cheapest paths; so they exist, and grow by one step.
-use Rattle.std.proofs.Common.{◌≡◌, ℕ, zero, suc, ◌+◌, ◌<◌, ◌≤◌, ◌⊎◌, List, [], ◌∷◌, ◌++◌, length, Some, None, Option, sym, refl, ap, ◌∙◌, subst, inl, inr, arith}
-use Rattle.std.specs.List.{AllByRecursion as All}
+use Rattle.std.proofs.Common.{◌≡◌, ℕ, zero, suc, ◌<◌, ◌≤◌, ◌⊎◌, List, [], ◌∷◌, ◌++◌, length, Some, None, Option, sym, refl, ap, ◌∙◌, subst, inl, inr, arith}
+use Rattle.std.specs.List.{AllByRecursion}
 use Rattle.std.proofs.lemmas.List.{length_push, append_assoc, append-nil, nil_from_length}
 use Rattle.cost.specs.Kind.{Kind, and_then}
 use Rattle.model.specs.Meaning.{Meaning}
 use Rattle.viterbi.specs.Lists.{EndsIn}
 use Rattle.viterbi.specs.Paths.{cost, extended, Open, CheapestTo, Chosen, Reading, Log}
-use Rattle.viterbi.specs.Algorithm.{Kept, chosen_of, better, least_of, go_on, advance, advanced, first, survivors, cheapest}
+use Rattle.viterbi.specs.Algorithm.{Kept, chosen_of, better, least_of, go_on, advance, advanced, first, survivors}
 use Rattle.viterbi.proofs.Ends.{compare, all_split}
 use Rattle.viterbi.proofs.Steps.{not_none, some_same, sum_defined, split_then, split}
 use Rattle.viterbi.proofs.Cheapest.{unique, chosen_cheapest}
@@ -81,7 +81,7 @@ module _ (K : Kind) (M : Meaning) where
   Right xs v = (s : ℕ) → s < M.modes → RightAt xs v s
 
   pub end_below : (xs : Log) (q : List ℕ) (c : K.Cost) (s : ℕ) → Open K M xs q c → EndsIn q s → s < M.modes
-  end_below xs q c s o e = (all_split (λ t. t < M.modes) e.0 s (subst (All (λ t. t < M.modes)) e.1 o.modes)).1
+  end_below xs q c s o e = (all_split (λ t. t < M.modes) e.0 s (subst (AllByRecursion (λ t. t < M.modes)) e.1 o.modes)).1
 
   -- the survivor of a mode in which an open path ends
   pub kept : (xs : Log) (v : ℕ → Option (Kept K)) → Right xs v → (s : ℕ) (q : List ℕ) (c : K.Cost) → Open K M xs q c → EndsIn q s → (p : List ℕ) × (d : K.Cost) × (v s ≡ Some (d, p)) × CheapestTo K M xs s p d

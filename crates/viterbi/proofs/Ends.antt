@@ -1,7 +1,7 @@
 -- The ends of lists, and the tie rule.
 use Rattle.std.proofs.Common.{◌≡◌, ℕ, ◌+◌, ◌<◌, ◌⊎◌, List, [], ◌∷◌, ◌++◌, length, get_or, sym, refl, ap, ◌∙◌, inl, inr, arith}
 use native.Mathlib.Decide.{dec_lt}
-use Rattle.std.specs.List.{AllByRecursion as All}
+use Rattle.std.specs.List.{AllByRecursion}
 use Rattle.std.proofs.lemmas.List.{length_push, get_or_push, get_or_append_left}
 use Rattle.viterbi.specs.Lists.{EndsIn}
 use Rattle.viterbi.specs.Paths.{LowerAtLast}
@@ -18,7 +18,7 @@ pub last_push : (s : ℕ) (q : List ℕ) (t : ℕ) → last_of s (q ++ t ∷ [])
 last_push s [] t = refl
 last_push s (x ∷ q) t = last_push x q t
 
-pub all_split : (P : ℕ → Type 0) (q : List ℕ) (t : ℕ) → All P (q ++ t ∷ []) → All P q × P t
+pub all_split : (P : ℕ → Type 0) (q : List ℕ) (t : ℕ) → AllByRecursion P (q ++ t ∷ []) → AllByRecursion P q × P t
 all_split P [] t h = (tt, h.0)
 all_split P (x ∷ q) t h = let r = all_split P q t h.1 in ((h.0, r.0), r.1)
 

@@ -1,6 +1,6 @@
 -- Paths through a model: what they cost, which is cheapest, what is decided and which cells are live.
-use Rattle.std.specs.Prelude.{◌≡◌, ℕ, ◌<◌, ◌≤◌, ◌⊎◌, List, [], ◌∷◌, length, Some, Option, slice_index, slice_index_or}
-use Rattle.std.specs.List.{AllByRecursion as All}
+use Rattle.std.specs.Prelude.{◌≡◌, ℕ, ◌<◌, ◌≤◌, ◌⊎◌, List, [], ◌∷◌, length, Some, Option, slice_index}
+use Rattle.std.specs.List.{AllByRecursion}
 use Rattle.cost.specs.declared.charge.Charge.{Charge}
 use Rattle.cost.specs.Kind.{Kind, sum}
 use Rattle.model.specs.Meaning.{Meaning}
@@ -37,13 +37,13 @@ extended K M c s t r = sum K c (M.passage s t ∷ M.reading t r ∷ [])
 pub record LowerAtLast (p q : List ℕ) : Type 0 where
   pub place : ℕ
   pub inside : place < length p
-  pub lower : slice_index_or p place 0 < slice_index q place
+  pub lower : slice_index p place < slice_index q place
   pub same_after : (k : ℕ) → place < k → k < length p → slice_index p k ≡ slice_index q k
 
 module _ (K : Kind) (M : Meaning) where
   -- p is an open path for the readings xs, of cost c.
   pub record Open (xs : Log) (p : List ℕ) (c : K.Cost) : Type 0 where
-    pub modes : All (λ t. t < M.modes) p
+    pub modes : AllByRecursion (λ t. t < M.modes) p
     pub one_each : length p ≡ length xs
     pub costs : cost K M xs p ≡ Some c
 
@@ -75,7 +75,7 @@ module _ (K : Kind) (M : Meaning) where
     pub path : List ℕ
     pub survivor : Survivor xs path
     pub inside : i < length xs
-    pub lies : slice_index_or path i 0 ≡ s
+    pub lies : slice_index path i ≡ s
 
   -- A cell is live if its reading is undecided.
   pub record LiveCell (xs : Log) (i s : ℕ) : Type 0 where

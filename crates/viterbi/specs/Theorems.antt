@@ -1,5 +1,5 @@
 -- The theorems about cheapest paths, for every kind and every model.
-use Rattle.std.specs.Prelude.{◌≡◌, ℕ, suc, ◌<◌, ◌≤◌, ◌⊎◌, ◌↔◌, List, [], ◌∷◌, ◌++◌, length, take, Some, ◌≢◌, slice_index, slice_index_or}
+use Rattle.std.specs.Prelude.{◌≡◌, ℕ, suc, ◌<◌, ◌≤◌, ◌⊎◌, ◌↔◌, List, [], ◌∷◌, ◌++◌, length, take, Some, ◌≢◌, slice_index}
 use Rattle.cost.specs.Kind.{Kind, and_then}
 use Rattle.model.specs.Meaning.{Meaning}
 use Rattle.viterbi.specs.Lists.{EndsIn, Begins}
@@ -55,8 +55,8 @@ module _ (K : Kind) (M : Meaning) where
     pub path : List ℕ
     pub survivor : Survivor K M xs path
     pub inside : suc i < length xs
-    pub lower : slice_index_or path i 0 ≡ a
-    pub upper : slice_index_or path (suc i) 0 ≡ b
+    pub lower : slice_index path i ≡ a
+    pub upper : slice_index path (suc i) ≡ b
 
   -- The survivors form a forest, whose layers tell what is decided.
   pub record Forest : Type 0 where

@@ -1,6 +1,8 @@
 //! The theory of cheapest paths, for every kind of cost and every model.
 //!
 //! Each function below has a theorem as its contract and does nothing at run time: whoever calls it may use the theorem.
+#![tactic(auto)]
+
 ghost use Rattle.model.specs.Meaning.{Meaning};
 ghost use Rattle.viterbi.specs.Theorems.{Unique, Exist, Computed, OneStep, Beginnings, Final, Grows, Forest, LiveCells, Totals};
 ghost use Rattle.viterbi.specs.Worked.{WorkedLogs};

@@ -6,16 +6,16 @@ use Rattle.decoder.proofs.Decoder.finish.Goals as goal
 pub returns-then-taken-eq0 : goal.returns-then-taken-eq0
 returns-then-taken-eq0 g c xs s = empty_ended (g.C.CostKind.kind c.args.kind.now) (g.M.Model.meaning c.args.model.now) xs c.args.self.now c.zero.result s (sym c.taken.ensures ∙ c.if-taken-eq0.true) c.zero.ensures
 
-pub returns-in-default : goal.returns-in-default
-returns-in-default g c xs s = absurd (never_stuck (g.C.CostKind.kind c.args.kind.now) (g.M.Model.meaning c.args.model.now) xs c.args.self.now s (λ e. c.if-taken-eq0.false (c.taken.ensures ∙ e)) c.in-default.ensures.ends)
+pub returns-in_default : goal.returns-in_default
+returns-in_default g c xs s = absurd (never_stuck (g.C.CostKind.kind c.args.kind.now) (g.M.Model.meaning c.args.model.now) xs c.args.self.now s (λ e. c.if-taken-eq0.false (c.taken.ensures ∙ e)) c.in_default.ensures.ends)
 
 pub finish-requires : goal.finish-requires
-finish-requires g c κs l =
+finish-requires g c l =
     let b = c.in-Some.ensures.backed c.in-Some.best.from refl in
     linked_of c.args.self.now c.in-Some.best.from b.0 b.1 l
 
-pub invariant-of-self : goal.invariant-of-self
-invariant-of-self g c = (∣ all_linked c.args.self.now.rows c.finish.new.self (omega (arith, c.finish.ensures.all_decided, c.finish.ensures.none_taken)) ∣₁, tt)
+pub invariant_of-self : goal.invariant_of-self
+invariant_of-self g c = record { linked = ∣ all_linked c.args.self.now.rows c.finish.new.self (omega (arith, c.finish.ensures.all_decided, c.finish.ensures.none_taken)) ∣₁ }
 
 pub returns : goal.returns
 returns g c xs s = ended (g.C.CostKind.kind c.args.kind.now) (g.M.Model.meaning c.args.model.now) xs c.args.self.now _ c.in-Some.best s (λ e. c.if-taken-eq0.false (c.taken.ensures ∙ e)) c.in-Some.ensures.ends c.finish.ensures

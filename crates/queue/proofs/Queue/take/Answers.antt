@@ -11,10 +11,10 @@ returns g c =
     let n = c.args.self.now.len in
     let s = c.first-first.result in
     let k = c.len-len.result in
-    let x = c.in-ok-x.x in
+    let x = c.in_ok-x.x in
     record {
-      items = ring_rest xs h n s k x c.in-ok-x.ensures c.first-first.ensures c.len-len.ensures;
+      items = ring_rest xs h n s k x c.in_ok-x.ensures c.first-first.ensures c.len-len.ensures;
       slots = refl {a = xs};
-      next = place_take xs h n s k x c.in-ok-x.ensures c.first-first.ensures c.len-len.ensures;
-      lent = refl {a = c.args.self.now.slots.name};
+      next = place_take xs h n s k x c.in_ok-x.ensures c.first-first.ensures c.len-len.ensures;
+      lent = refl {a = c.args.self.now.slots.ghost_name};
     }

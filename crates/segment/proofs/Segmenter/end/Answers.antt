@@ -3,12 +3,12 @@ use Rattle.std.proofs.lemmas.Result.{err_from_is_err_and}
 use Rattle.segment.specs.Segmenter.{Ended}
 use Rattle.segment.proofs.Calls.{ended_some, ended_none, end_blocked}
 use Rattle.segment.proofs.Segmenter.end.Goals as goal
-use Rattle.segment.proofs.Segmenter.end.Goals.{in-Some+in-ok-put, in-default}
+use Rattle.segment.proofs.Segmenter.end.Goals.{in-Some+in_ok-put, in_default}
 
-pub returns-in-err-put : goal.returns-in-err-put
-returns-in-err-put c =
-    let p = err_from_is_err_and c.from-residual.result c.from-residual.ensures.1 in
-    let e = c.in-err-put.ensures in
+pub returns-in_err-put : goal.returns-in_err-put
+returns-in_err-put c =
+    let p = err_from_is_err_and c.from_residual.result c.from_residual.ensures.1 in
+    let e = c.in_err-put.ensures in
     rw (p.1, p.2) (e.0, refl, e.2, end_blocked c.args.self.now c.args.segments.now c.in-Some.last c.in-Some.is e.1)
 
 pub returns : goal.returns
@@ -17,6 +17,6 @@ returns c =
     let q = c.args.segments.now in
     let s' = c.new.result in
     elim c.match-self.branch [
-      | in-Some+in-ok-put w ↦ subst (Ended s q s') (sym w.segments-is) (ended_some s s' q w.put.new.self w.in-Some.last w.in-Some.is w.in-ok-put.ensures c.new.ensures)
-      | in-default w ↦ subst (Ended s q s') (sym w.segments-is) (ended_none s s' q w.in-default.is c.new.ensures)
+      | in-Some+in_ok-put w ↦ subst (Ended s q s') (sym w.segments-is) (ended_some s s' q w.put.new.self w.in-Some.last w.in-Some.is w.in_ok-put.ensures c.new.ensures)
+      | in_default w ↦ subst (Ended s q s') (sym w.segments-is) (ended_none s s' q w.in_default.is c.new.ensures)
     ]

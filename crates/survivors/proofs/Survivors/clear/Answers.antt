@@ -5,8 +5,8 @@ use Rattle.survivors.proofs.Survivors.clear.Goals as goal
 pub clear-requires : goal.clear-requires
 clear-requires c = valid c.args.self.now
 
-pub invariant-of-self : goal.invariant-of-self
-invariant-of-self c = (∣ c.clear.ensures.valid ∣₁, tt)
+pub invariant_of-self : goal.invariant_of-self
+invariant_of-self c = record { valid = ∣ c.clear.ensures.valid ∣₁ }
 
 pub returns : goal.returns
 returns c = blank_of _ c.clear.ensures

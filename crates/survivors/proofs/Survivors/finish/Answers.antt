@@ -9,8 +9,8 @@ finish-requires c =
     let h = c.requires (omega arith) in
     record { valid = valid s; mode = omega (arith, tip_modes s.tree (valid s) c.args.best h); tip = omega (arith, tip_cell s.tree (valid s) c.args.best h) }
 
-pub invariant-of-self : goal.invariant-of-self
-invariant-of-self c = (∣ c.finish.ensures.valid ∣₁, tt)
+pub invariant_of-self : goal.invariant_of-self
+invariant_of-self c = record { valid = ∣ c.finish.ensures.valid ∣₁ }
 
 pub returns-then-self : goal.returns-then-self
 returns-then-self c = finished_of c.args.self.now c.args.best c.args.ring.now _ c.finish.new.ring c.finish.ensures

@@ -5,8 +5,8 @@ use Rattle.survivors.proofs.Survivors.settle.Goals as goal
 pub settle-requires : goal.settle-requires
 settle-requires c = valid c.args.self.now
 
-pub invariant-of-self : goal.invariant-of-self
-invariant-of-self c = (∣ c.settle.ensures.decided.valid ∣₁, tt)
+pub invariant_of-self : goal.invariant_of-self
+invariant_of-self c = record { valid = ∣ c.settle.ensures.decided.valid ∣₁ }
 
 pub returns : goal.returns
 returns c = settled_of c.args.self.now c.args.ring.now _ c.settle.new.ring c.settle.ensures.decided c.settle.ensures.most

@@ -11,7 +11,7 @@ returns-then-self g c =
     let M = g.M.Model.meaning c.args.model.now in
     let s = c.args.self.now in
     let is : s.odd ≡ present s = sym (cond-true s.turned s.odd s.even c.if-self.true) in
-    record { ends = subst (λ (row : List (Option Total)). Ends K M s.modes row c.least-in.result) is c.least-in.ensures.ends; backed = subst (λ (row : List (Option Total)). Backed s.modes row c.least-in.result) is c.least-in.ensures.backed }
+    record { ends = subst (λ (row : List (Option Total)). Ends K M s.modes row c.least_in.result) is c.least_in.ensures.ends; backed = subst (λ (row : List (Option Total)). Backed s.modes row c.least_in.result) is c.least_in.ensures.backed }
 
 pub returns : goal.returns
 returns g c =
@@ -19,4 +19,4 @@ returns g c =
     let M = g.M.Model.meaning c.args.model.now in
     let s = c.args.self.now in
     let is : s.even ≡ present s = sym (cond-false s.turned s.odd s.even c.if-self.false) in
-    record { ends = subst (λ (row : List (Option Total)). Ends K M s.modes row c.least-in-2.result) is c.least-in-2.ensures.ends; backed = subst (λ (row : List (Option Total)). Backed s.modes row c.least-in-2.result) is c.least-in-2.ensures.backed }
+    record { ends = subst (λ (row : List (Option Total)). Ends K M s.modes row c.least_in-2.result) is c.least_in-2.ensures.ends; backed = subst (λ (row : List (Option Total)). Backed s.modes row c.least_in-2.result) is c.least_in-2.ensures.backed }

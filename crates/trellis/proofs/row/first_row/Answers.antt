@@ -1,6 +1,6 @@
 use Rattle.std.proofs.Common.{◌≡◌, ◌<◌, is_some, sym, ap, ◌∙◌, arith}
 use Rattle.std.proofs.lemmas.List.{length-set}
-use Rattle.viterbi.specs.Limits.{MODES}
+use Rattle.trellis.specs.Rows.{MODES}
 use Rattle.trellis.proofs.Filling.{filled_more, filled_all, some_mark, first, first_marked, first_themselves}
 use Rattle.trellis.proofs.row.first_row.Goals as goal
 
@@ -10,7 +10,7 @@ loop-t-preserved g c =
     let l : c.loop-t.t < MODES = omega (arith, c.loop-t-test.true, c.requires) in (
       length-set c.loop-t.new c.loop-t.t c.begin-total.result ∙ i.0,
       length-set c.loop-t.from c.loop-t.t c.mark.result ∙ i.1,
-      filled_more _ c.loop-t.t _ _ _ _ _ i.2 c.begin-total.result c.mark.result (omega (arith, i.0)) (omega (arith, i.1)) c.is-some-any.result (c.is-some-any.ensures ∙ some_mark c.begin-total.result c.loop-t.t ∙ ap is_some (sym c.mark.ensures)) (c.begin-total.ensures, c.mark.ensures),
+      filled_more _ c.loop-t.t _ _ _ _ _ i.2 c.begin-total.result c.mark.result (omega (arith, i.0)) (omega (arith, i.1)) c.is_some-any.result (c.is_some-any.ensures ∙ some_mark c.begin-total.result c.loop-t.t ∙ ap is_some (sym c.mark.ensures)) (c.begin-total.ensures, c.mark.ensures),
     )
 
 pub returns : goal.returns

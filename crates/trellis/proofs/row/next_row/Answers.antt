@@ -1,6 +1,6 @@
 use Rattle.std.proofs.Common.{◌≡◌, ◌<◌, is_some, sym, ap, ◌∙◌, arith}
 use Rattle.std.proofs.lemmas.List.{length-set}
-use Rattle.viterbi.specs.Limits.{MODES}
+use Rattle.trellis.specs.Rows.{MODES}
 use Rattle.trellis.proofs.Filling.{filled_more, filled_all, some_from, next, next_marked, next_backed}
 use Rattle.trellis.proofs.row.next_row.Goals as goal
 
@@ -9,14 +9,14 @@ loop-t-preserved g c =
     let i = c.loop-t.invariant in
     let l : c.loop-t.t < MODES = omega (arith, c.loop-t-test.true, c.requires) in
     let b = c.enter-best in (
-      length-set c.loop-t.new c.loop-t.t c.total-of.result ∙ i.0,
-      length-set c.loop-t.from c.loop-t.t c.from-of.result ∙ i.1,
-      filled_more _ c.loop-t.t _ _ _ _ _ i.2 c.total-of.result c.from-of.result (omega (arith, i.0)) (omega (arith, i.1)) c.is-some-any.result (c.is-some-any.ensures ∙ some_from b.result ∙ ap is_some (sym c.from-of.ensures)) (record {
+      length-set c.loop-t.new c.loop-t.t c.total_of.result ∙ i.0,
+      length-set c.loop-t.from c.loop-t.t c.from_of.result ∙ i.1,
+      filled_more _ c.loop-t.t _ _ _ _ _ i.2 c.total_of.result c.from_of.result (omega (arith, i.0)) (omega (arith, i.1)) c.is_some-any.result (c.is_some-any.ensures ∙ some_from b.result ∙ ap is_some (sym c.from_of.ensures)) (record {
         way = b.result;
         entered = b.ensures.entered;
         backed = b.ensures.backed;
-        total = c.total-of.ensures;
-        from = c.from-of.ensures;
+        total = c.total_of.ensures;
+        from = c.from_of.ensures;
       }),
     )
 

@@ -1,6 +1,5 @@
 use Rattle.std.proofs.Common.{◌≡◌, length}
-use Rattle.viterbi.specs.Limits.{MODES}
-use Rattle.trellis.specs.Rows.{Filled, EnteredBy}
+use Rattle.trellis.specs.Rows.{MODES, Filled, EnteredBy}
 use Rattle.trellis.proofs.row.next_row.Given as goal
 
 abbrev pub invariant-loop-t : goal.invariant-loop-t

@@ -10,5 +10,5 @@ returns-in-Err c =
       unsound = λ _. (omega arith, omega arith);
     }
 
-pub invariant-of-result-2 : goal.invariant-of-result-2
-invariant-of-result-2 c = let ok = c.in-default.ensures.first in (few_modes _ ok, (few_values _ ok, tt))
+pub invariant_of-result-2 : goal.invariant_of-result-2
+invariant_of-result-2 c = let ok = c.in_default.ensures.first in record { few = few_modes _ ok; low = few_values _ ok }

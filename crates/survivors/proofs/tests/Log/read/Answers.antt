@@ -28,5 +28,5 @@ both s a b t g (suc (suc u)) l = absurd (omega arith)
 pub grow-requires : goal.grow-requires
 grow-requires c = may c.args.self.now.survivors c.args.zero c.args.one c.live.result c.if-zero-gt1.false c.if-one-gt1.false c.args.self.now.tips c.live.ensures c.if-live-gt1022.false (omega (arith, c.taken.ensures))
 
-pub invariant-of-self : goal.invariant-of-self
-invariant-of-self c = ((λ u l d. c.settle.ensures.tips u (both _ c.args.zero c.args.one c.grow.new.self c.grow.ensures u l) d), tt)
+pub invariant_of-self : goal.invariant_of-self
+invariant_of-self c = record { tips = λ u l d. c.settle.ensures.tips u (both _ c.args.zero c.args.one c.grow.new.self c.grow.ensures u l) d }

@@ -7,14 +7,14 @@ use Rattle.survivors.proofs.Arrivals.{join_used, join_uses}
 use Rattle.survivors.proofs.Attaches.{put_here, root_joined, root, p_refs, p_heirs, linked_here, linked_joined, below}
 use Rattle.survivors.proofs.tree.Tree.attach.Goals as goal
 
-pub overflow-add-self : goal.overflow-add-self
-overflow-add-self c =
+pub overflow_add-self : goal.overflow_add-self
+overflow_add-self c =
     let s = c.args.self.now in
     let r = c.requires.1 in
     omega (arith, r.holds.wide, under_one_bound s.cells s.base 1024)
 
-pub overflow-add-self-then-self : goal.overflow-add-self-then-self
-overflow-add-self-then-self c =
+pub overflow_add-self-then-self : goal.overflow_add-self-then-self
+overflow_add-self-then-self c =
     let s = c.args.self.now in
     let r = c.requires.1 in
     omega (arith, r.holds.oldest, under_self_bound s.cells s.base 1024, r.holds.stack.below (s.room - 1) (omega (arith, r.room)))
@@ -23,16 +23,16 @@ overflow-add-self-then-self c =
 older : (s : Tree) (h : ℕ → ℕ) (m p : ℕ) → Ready s h m p → s.top ≢ s.base → s.base < s.top
 older s h m p r ne = omega (arith, r.holds.shape.span, ne)
 
-pub overflow-add-self-else-self : goal.overflow-add-self-else-self
-overflow-add-self-else-self c =
+pub overflow_add-self-else-self : goal.overflow_add-self-else-self
+overflow_add-self-else-self c =
     let s = c.args.self.now in
     let r = c.requires.1 in
     let o = older s c.requires.0 c.args.mode c.args.parent r c.if-self.false in
     let e = p_heirs r.holds r.room c.args.parent c.args.mode r.small r.fresh c.if-self.false (r.below o) (r.used o) (r.layer o) in
     omega (arith, e, r.holds.heir c.args.parent (r.below o) (r.used o), under_self_bound s.cells s.base c.args.parent, r.holds.stack.below (s.room - 1) (omega (arith, r.room)))
 
-pub overflow-add-self-else-self-2 : goal.overflow-add-self-else-self-2
-overflow-add-self-else-self-2 c =
+pub overflow_add-self-else-self-2 : goal.overflow_add-self-else-self-2
+overflow_add-self-else-self-2 c =
     let s = c.args.self.now in
     let r = c.requires.1 in
     let o = older s c.requires.0 c.args.mode c.args.parent r c.if-self.false in

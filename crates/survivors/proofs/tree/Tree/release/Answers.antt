@@ -25,14 +25,14 @@ bounds-self-self c =
     let i = c.up.invariant in
     room_left i.0.0 c.up.c i.1 i.0.1
 
-pub overflow-sub-self-then-old-self : goal.overflow-sub-self-then-old-self
-overflow-sub-self-then-old-self c =
+pub overflow_sub-self-then-old-self : goal.overflow_sub-self-then-old-self
+overflow_sub-self-then-old-self c =
     let s = c.up.self in
     let i = c.up.invariant in
     width_left i.0.0 c.up.c i.1 i.0.1 c.if-old-gt1.false c.if-old-self.true
 
-pub overflow-sub-self-then-old-self-2 : goal.overflow-sub-self-then-old-self-2
-overflow-sub-self-then-old-self-2 c =
+pub overflow_sub-self-then-old-self-2 : goal.overflow_sub-self-then-old-self-2
+overflow_sub-self-then-old-self-2 c =
     let s = c.up.self in
     let i = c.up.invariant in
     first_left i.0.0 c.up.c i.1 i.0.1 c.if-old-gt1.false c.if-old-self.true
@@ -50,8 +50,8 @@ returns-then-old-self c =
       modes = i.7;
     }
 
-pub overflow-sub-self-in-up : goal.overflow-sub-self-in-up
-overflow-sub-self-in-up c =
+pub overflow_sub-self-in-up : goal.overflow_sub-self-in-up
+overflow_sub-self-in-up c =
     let s = c.up.self in
     let i = c.up.invariant in
     let e = low_heirs i.0.0 c.up.c i.1 i.0.1 (at s.cells c.up.c).parent in

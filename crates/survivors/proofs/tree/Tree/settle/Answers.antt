@@ -9,14 +9,14 @@ bounds-self-r c = first_below c.down.self c.down.invariant.valid c.down-test.tru
 pub bounds-self-r-in-down : goal.bounds-self-r-in-down
 bounds-self-r-in-down c = first_below c.down.self c.down.invariant.valid c.down-test.true
 
-pub overflow-cast-self : goal.overflow-cast-self
-overflow-cast-self c = omega (arith, first_below c.down.self c.down.invariant.valid c.down-test.true)
+pub overflow_cast-self : goal.overflow_cast-self
+overflow_cast-self c = omega (arith, first_below c.down.self c.down.invariant.valid c.down-test.true)
 
 pub bounds-self-self : goal.bounds-self-self
 bounds-self-self c = room_below c.down.self c.down.invariant.valid c.down-test.true
 
-pub overflow-add-self-in-down : goal.overflow-add-self-in-down
-overflow-add-self-in-down c = omega (arith, deep c.down.self c.down.invariant.valid c.down-test.true)
+pub overflow_add-self-in-down : goal.overflow_add-self-in-down
+overflow_add-self-in-down c = omega (arith, deep c.down.self c.down.invariant.valid c.down-test.true)
 
 pub down-preserved-then-self : goal.down-preserved-then-self
 down-preserved-then-self c = settle_end c.args.self.now c.args.ring.now c.down.self c.down.ring c.down.invariant c.told-ring c.down-test.true c.if-self.true

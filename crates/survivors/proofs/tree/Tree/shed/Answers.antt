@@ -4,7 +4,7 @@ use Rattle.survivors.specs.Cells.{plus}
 use Rattle.survivors.specs.declared.tree.Tree.{Tree}
 use Rattle.survivors.proofs.Tips.{Shedding, shed_clear, shed_on, shed_skip, shed_all, cleared, read_some, read_none}
 use Rattle.survivors.proofs.tree.Tree.shed.Goals as goal
-use Rattle.survivors.proofs.tree.Tree.shed.Goals.{in-Some, in-default}
+use Rattle.survivors.proofs.tree.Tree.shed.Goals.{in-Some, in_default}
 
 short : (o s : Tree) (k i : ℕ) → Shedding o s k i → i < k → k ≤ 32 → i < length (tips_of s)
 short o s k i g l m = omega (arith, g.tips.many)
@@ -35,8 +35,8 @@ loop-i-preserved c =
           let e : tip_at s i ≡ w.in-Some.c = read_some s.tips i w.in-Some.c n w.in-Some.is in
           subst P (sym w.self-is) (shed_on o s c.args.self.now.modes i g c.loop-i-test.true c.requires.few w.release.new.self
           (subst (λ (x : ℕ). Released (cleared s i) x w.release.new.self) (sym e) w.release.ensures))
-      | in-default w ↦
-          subst P (sym w.self-is) (shed_skip o s c.args.self.now.modes i g c.loop-i-test.true c.requires.few (omega (arith, read_none s.tips i n w.in-default.is)))
+      | in_default w ↦
+          subst P (sym w.self-is) (shed_skip o s c.args.self.now.modes i g c.loop-i-test.true c.requires.few (omega (arith, read_none s.tips i n w.in_default.is)))
     ]
 
 pub returns : goal.returns

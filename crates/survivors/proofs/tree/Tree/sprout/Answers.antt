@@ -5,7 +5,7 @@ use Rattle.survivors.specs.declared.tree.Tree.{Tree}
 use Rattle.survivors.proofs.Tips.{real_set}
 use Rattle.survivors.proofs.Sprouts.{sprout_none, skip, ready, grown, from_some, from_none}
 use Rattle.survivors.proofs.tree.Tree.sprout.Goals as goal
-use Rattle.survivors.proofs.tree.Tree.sprout.Goals.{in-Some, in-default}
+use Rattle.survivors.proofs.tree.Tree.sprout.Goals.{in-Some, in_default}
 
 few : (o : Tree) (preds : List (Option ℕ)) → Next o (chosen preds) → (u : ℕ) → u < length preds → u < 32
 few o preds x u l = omega (arith, x.many, length-map preds from_of)
@@ -22,8 +22,8 @@ tip-p-requires c = record {
   tips = ap length c.loop-u.invariant.0 ∙ sym (length-map c.args.self.now.tips tip_of) ∙ c.requires.next.valid.tips.many;
 }
 
-pub overflow-cast-u : goal.overflow-cast-u
-overflow-cast-u c = omega (arith, few c.args.self.now c.args.preds.now c.requires.next c.loop-u.u c.loop-u-test.true)
+pub overflow_cast-u : goal.overflow_cast-u
+overflow_cast-u c = omega (arith, few c.args.self.now c.args.preds.now c.requires.next c.loop-u.u c.loop-u-test.true)
 
 -- the cell that the mode goes on from
 ready_at : (o : Tree) (preds : List (Option ℕ)) → Next o (chosen preds) → (u : ℕ) (s : Tree) (new : List ℕ) → Sprout o (chosen preds) u s new → u < length preds
@@ -68,11 +68,11 @@ loop-u-preserved c =
             real_set c.loop-u.tips u (Some w.attach-i.result) c.loop-u.invariant.1 (λ y q. let e : w.attach-i.result ≡ y = cc in subst (λ (z : ℕ). z < 1024) e a.below),
             grown_at o ps c.requires.next u s c.loop-u.tips c.loop-u.invariant.2 c.loop-u-test.true w.in-Some.from w.in-Some.is m w.tip-p.result w.tip-p.ensures w.attach-i.result t a,
           ))
-      | in-default w ↦
+      | in_default w ↦
           subst (λ (z : Tree). P z c.match-pred.tips) (sym w.self-is) (subst (P s) (sym w.tips-is) (
             c.loop-u.invariant.0,
             c.loop-u.invariant.1,
-            skip o (chosen ps) c.requires.next u s (map tip_of c.loop-u.tips) c.loop-u.invariant.2 (within ps u c.loop-u-test.true) (omega (arith, from_none ps u c.loop-u-test.true w.in-default.is)),
+            skip o (chosen ps) c.requires.next u s (map tip_of c.loop-u.tips) c.loop-u.invariant.2 (within ps u c.loop-u-test.true) (omega (arith, from_none ps u c.loop-u-test.true w.in_default.is)),
           ))
     ]
 

@@ -1,10 +1,10 @@
 use Rattle.std.proofs.Common.{arith}
 use Rattle.model.proofs.Products.{in_rows}
-use Rattle.model.proofs.dense.DenseModel.passage.Goals as goal
+use Rattle.model.proofs.dense.DenseTableModeModel.passage.Goals as goal
 
 -- both orders of the two modes are in the table, so that safety does not depend on the order
-pub charge-at-requires : goal.charge-at-requires
-charge-at-requires c =
+pub charge_at-requires : goal.charge_at-requires
+charge_at-requires c =
     let d = c.args.self.now in
     let f = c.args.from in
     let t = c.args.to in
