@@ -12,14 +12,6 @@ abbrev pub InOrder : List Check → (Fault → Type 0) → Type 0 → Type 0
 InOrder [] Refused Passed = Passed
 InOrder ((f when Applies) ∷ checks) Refused Passed = (Applies × Refused f) ⊎ ((Applies → ⊥) × InOrder checks Refused Passed)
 
--- No check applies.
-abbrev pub Passes : List Check → Type 0
-Passes checks = InOrder checks (λ g. ⊥) (Unit {0})
-
--- The first check that applies is that of the fault f.
-abbrev pub Refuses : List Check → Fault → Type 0
-Refuses checks f = InOrder checks (λ g. g ≡ f) ⊥
-
 -- P holds at i, and nowhere before.
 pub record First (P : ℕ → Type 0) (i : ℕ) : Type 0 where
   pub here : P i
