@@ -1,5 +1,5 @@
 -- What a kind of cost means, and the laws that it keeps.
-use Rattle.std.specs.Prelude.{◌≡◌, ℕ, ◌^◌, ◌<◌, ◌≤◌, Bool, ◌⊎◌, List, [], ◌∷◌, length, Some, None, MatchBool, Option}
+use Rattle.std.specs.Prelude.{◌≡◌, ℕ, ◌^◌, ◌<◌, ◌≤◌, Bool, ◌⊎◌, List, [], ◌∷◌, length, Some, MatchBool, Option, option_and_then, option_map}
 use Rattle.cost.specs.declared.charge.Charge.{Charge}
 use Rattle.cost.specs.declared.charge.Total.{Total}
 use Rattle.cost.specs.declared.charge.Shown.{Shown}
@@ -8,15 +8,10 @@ use Rattle.cost.specs.declared.charge.Shown.{Shown}
 abbrev pub MOST : ℕ
 MOST = 2000000
 
--- What f makes of the value, if there is one.
-abbrev pub and_then : {A B : Type 0} → Option A → (A → Option B) → Option B
-and_then None f = None
-and_then (Some a) f = f a
-
 -- What charges come to, added to c one by one from the left; None where one is barred.
 abbrev pub added_to : {C : Type 0} → (Charge → Option C) → (C → C → C) → C → List Charge → Option C
 added_to cost_of add c [] = Some c
-added_to cost_of add c (h ∷ hs) = and_then (cost_of h) (λ d. added_to cost_of add (add c d) hs)
+added_to cost_of add c (h ∷ hs) = option_and_then (λ d. added_to cost_of add (add c d) hs) (cost_of h)
 
 -- c is the sum of at most 2,000,000 charges: the charges of a log from the front, as far as one likes.
 pub record SumOfCharges {C : Type 0} (cost_of : Charge → Option C) (add : C → C → C) (zero c : C) : Type 0 where
@@ -73,8 +68,7 @@ pub record Carries (K : Kind) (t : Total) (c : K.Cost) : Type 0 where
 
 -- The total of a cost, if there is one.
 abbrev pub carried_of : (K : Kind) → Option K.Cost → Option Total
-carried_of K None = None
-carried_of K (Some c) = Some (K.carried c)
+carried_of K o = option_map K.carried o
 
 -- What a charge costs, as it is carried.
 abbrev pub carried_cost : Kind → Charge → Option Total

@@ -1,5 +1,5 @@
 -- The kind Strict.
-use Rattle.std.specs.Prelude.{◌≡◌, ℕ, ◌+◌, ◌<◌, ◌≤◌, Bool, true, false, cond, Some, None, Option, ◌==◌, refl}
+use Rattle.std.specs.Prelude.{◌≡◌, ℕ, ◌+◌, ◌<◌, ◌≤◌, Bool, true, false, if◌then◌else◌, Some, None, Option, ◌==◌, refl}
 use Rattle.std.proofs.Common.{ap, arith}
 use Rattle.cost.specs.declared.charge.Charge.{Charge}
 use Rattle.cost.specs.declared.charge.Total.{Total}
@@ -10,7 +10,7 @@ use Rattle.cost.specs.Sums.{bounded}
 
 -- A charge with a breach is barred; otherwise the cost is the penalty.
 abbrev cost_of : Charge → Option ℕ
-cost_of h = cond (h.breaches == 0) (Some h.penalty) None
+cost_of h = if h.breaches == 0 then Some h.penalty else None
 
 abbrev add : ℕ → ℕ → ℕ
 add a b = a + b
@@ -21,7 +21,7 @@ carried c = record { breaches = 0; penalty = c }
 abbrev shown : ℕ → Shown
 shown c = record { breaches = 0; penalty = c }
 
-small : (b : Bool) (p d : ℕ) → p ≤ 65535 → cond b (Some p) None ≡ Some d → d ≤ 65535
+small : (b : Bool) (p d : ℕ) → p ≤ 65535 → (if b then Some p else None) ≡ Some d → d ≤ 65535
 small true p d h e = let i : p ≡ d = cc in omega arith
 small false p d h e = let z : ◌≡◌ {A = ℕ} 0 1 = cc in absurd (omega arith)
 

@@ -5,7 +5,7 @@ use super::charge::{Charge, Shown, Total};
 use super::kind::CostKind;
 
 /// Bars nothing; breaches and penalties are added apart and compared in that order.
-#[derive(Clone, Copy)]
+#[derive(Clone, Copy, PartialEq, Eq, Debug)]
 pub struct Graded {}
 
 impl CostKind for Graded {
@@ -33,7 +33,7 @@ impl CostKind for Graded {
     }
 
     fn less(&self, a: Total, b: Total) -> bool {
-        a.breaches < b.breaches || a.breaches == b.breaches && a.penalty < b.penalty
+        (a.breaches, a.penalty) < (b.breaches, b.penalty)
     }
 
     fn shown(&self, a: Total) -> Shown {

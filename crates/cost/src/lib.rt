@@ -4,7 +4,6 @@
 mod charge;
 mod graded;
 mod kind;
-mod making;
 mod strict;
 
 pub use charge::{Charge, Shown, Total};

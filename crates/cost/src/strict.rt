@@ -5,7 +5,7 @@ use super::charge::{Charge, Shown, Total};
 use super::kind::CostKind;
 
 /// Bars every charge with a breach; otherwise the cost is the penalty.
-#[derive(Clone, Copy)]
+#[derive(Clone, Copy, PartialEq, Eq, Debug)]
 pub struct Strict {}
 
 impl CostKind for Strict {

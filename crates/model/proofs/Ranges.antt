@@ -1,12 +1,20 @@
 -- Parameters in their ranges give penalties that fit a charge.
-use Rattle.std.proofs.Common.{ℕ, ◌+◌, ◌*◌, ◌<◌, ◌≤◌, inl, inr, arith}
+use Rattle.std.proofs.Common.{◌≡◌, ℕ, ◌+◌, ◌*◌, ◌<◌, ◌≤◌, true, Ok, Err, Result, is_ok, inl, inr, arith, rules}
 use Rattle.std.proofs.lemmas.Bool.{cases_lt}
+use Rattle.fault.specs.declared.Fault.{Fault}
+use Rattle.fault.specs.declared.Fault.TheVariants.{Parameter}
+use Rattle.fault.specs.Checks.{RefusesFirst}
 use Rattle.model.specs.declared.banded.Parameters.{Parameters}
-use Rattle.model.specs.Banded.{AllInRange, Uncut, distance}
+use Rattle.model.specs.Banded.{OutOfRange, AllInRange, Uncut, distance}
 use Rattle.model.proofs.Products.{product}
 
 at_most : (a b : ℕ) → (b < a → ⊥) → a ≤ b
 at_most a b h = elim (cases_lt b a) [ inl k ↦ absurd (h k) | inr k ↦ k ]
+
+-- a check that passes found no parameter out of its range
+pub in_range : (p : Parameters) (r : Result (Unit {0}) Fault) → RefusesFirst (OutOfRange p) Parameter r → is_ok r ≡ true → AllInRange p
+in_range p (Ok u) none ok = none
+in_range p (Err f) first ok = search rules
 
 pub few_modes : (p : Parameters) → AllInRange p → p.modes ≤ 32
 few_modes p ok = at_most _ _ (λ h. ok 0 (inr h))

@@ -1,5 +1,5 @@
 -- The banded model.
-use Rattle.std.specs.Prelude.{ℕ, ◌+◌, ◌-◌, ◌*◌, ◌<◌, ◌≤◌, cond, ◌⊎◌, List, [], ◌∷◌, ◌==◌, nat_lt, slice_index_or}
+use Rattle.std.specs.Prelude.{ℕ, ◌+◌, ◌-◌, ◌*◌, ◌<◌, ◌≤◌, if◌then◌else◌, ◌⊎◌, List, [], ◌∷◌, ◌==◌, nat_lt, slice_index_or}
 use Rattle.cost.specs.declared.charge.Charge.{Charge}
 use Rattle.cost.specs.Charges.{charge}
 use Rattle.model.specs.declared.banded.Parameters.{Parameters}
@@ -23,9 +23,13 @@ limits p =
     ∷ limit p.spacing 0 255
     ∷ []
 
+-- The value is out of its range.
+abbrev pub Broken : Limit → Type 0
+Broken l = (l.value < l.least) ⊎ (l.most < l.value)
+
 -- The parameter i is out of its range.
 abbrev pub OutOfRange : Parameters → ℕ → Type 0
-OutOfRange p i = let l = slice_index_or (limits p) i (limit 0 0 0) in (l.value < l.least) ⊎ (l.most < l.value)
+OutOfRange p i = Broken (slice_index_or (limits p) i (limit 0 0 0))
 
 -- Every parameter is in its range.
 abbrev pub AllInRange : Parameters → Type 0
@@ -37,7 +41,7 @@ distance a b = (a - b) + (b - a)
 
 -- Staying costs nothing; a passage over a distance costs hop + rate × distance, and a breach where it is above the band.
 abbrev pub passage_over : Parameters → ℕ → Charge
-passage_over p d = cond (d == 0) (charge 0 0) (charge (cond (nat_lt p.band d) 1 0) (p.hop + p.rate * d))
+passage_over p d = if d == 0 then charge 0 0 else charge (if nat_lt p.band d then 1 else 0) (p.hop + p.rate * d)
 
 -- The meaning of the parameters: starts cost nothing, and a reading costs slope × its distance from the mode's centre.
 abbrev pub banded : Parameters → Meaning

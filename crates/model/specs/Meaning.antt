@@ -1,5 +1,5 @@
 -- What a model means.
-use Rattle.std.specs.Prelude.{◌≡◌, ℕ, ◌≤◌, Bool, true, false, cond, ◌&&◌, ◌⊎◌, ◌≢◌, nat_lt, refl}
+use Rattle.std.specs.Prelude.{◌≡◌, ℕ, ◌≤◌, Bool, true, false, if◌then◌else◌, ◌&&◌, ◌⊎◌, ◌≢◌, nat_lt, refl}
 use Rattle.std.proofs.Common.{inl, inr, arith}
 use Rattle.std.proofs.lemmas.Bool.{ltb-true}
 use Rattle.cost.specs.declared.charge.Charge.{Charge}
@@ -25,16 +25,16 @@ abbrev pub within : (k v : ℕ) → (ℕ → Charge) → (ℕ → ℕ → Charge
 within k v start passage reading = record {
   modes = k;
   values = v;
-  start = λ s. cond (nat_lt s k) (start s) worst;
-  passage = λ s t. cond (nat_lt s k && nat_lt t k) (passage s t) worst;
-  reading = λ s r. cond (nat_lt s k && nat_lt r v) (reading s r) worst;
+  start = λ s. if nat_lt s k then start s else worst;
+  passage = λ s t. if nat_lt s k && nat_lt t k then passage s t else worst;
+  reading = λ s r. if nat_lt s k && nat_lt r v then reading s r else worst;
 }
 
-one : (b : Bool) (c : Charge) → (b ≢ true) → cond b c worst ≡ worst
+one : (b : Bool) (c : Charge) → (b ≢ true) → (if b then c else worst) ≡ worst
 one true c h = absurd (h refl)
 one false c h = refl
 
-two : (a b : Bool) (c : Charge) → (a ≡ true → b ≢ true) → cond (a && b) c worst ≡ worst
+two : (a b : Bool) (c : Charge) → (a ≡ true → b ≢ true) → (if a && b then c else worst) ≡ worst
 two true true c h = absurd (h refl refl)
 two true false c h = refl
 two false b c h = refl
@@ -42,7 +42,7 @@ two false b c h = refl
 not_below : (s k : ℕ) → k ≤ s → nat_lt s k ≢ true
 not_below s k h e = omega (arith, ltb-true s k e)
 
-either : (s k r v : ℕ) (c : Charge) → (k ≤ s) ⊎ (v ≤ r) → cond (nat_lt s k && nat_lt r v) c worst ≡ worst
+either : (s k r v : ℕ) (c : Charge) → (k ≤ s) ⊎ (v ≤ r) → (if nat_lt s k && nat_lt r v then c else worst) ≡ worst
 either s k r v c (inl h) = two _ _ c (λ a b. not_below s k h a)
 either s k r v c (inr h) = two _ _ c (λ a b. not_below r v h b)
 

@@ -1,15 +1,15 @@
-ghost use Rattle.std.specs.Prelude.{◌≡◌, ◌≤◌, true, is_ok};
+ghost use Rattle.std.specs.Prelude.{◌≡◌, ◌≤◌, true, is_ok, slice_index_or};
 ghost use Rattle.fault.specs.Checks.{RefusesFirst};
 ghost use Rattle.fault.specs.declared.Fault.TheVariants.{Parameter};
 ghost use Rattle.model.specs.Meaning.{MadeOf, within_outside};
-ghost use Rattle.model.specs.Banded.{banded, limit, limits, OutOfRange, AllInRange, Uncut};
+ghost use Rattle.model.specs.Banded.{banded, limit, limits, Broken, OutOfRange, AllInRange, Uncut};
 
 use super::Model as ModeModel;
 use cost::Charge;
 use fault::Fault;
 
 /// The eight parameters of a banded model, in the order in which they are checked.
-#[derive(Clone, Copy)]
+#[derive(Clone, Copy, PartialEq, Eq, Debug, Default)]
 pub struct Parameters {
     pub modes: u16,
     pub values: u16,
@@ -37,6 +37,18 @@ impl Limit {
     }
 }
 
+// Names the first parameter that is out of its range.
+fn first_broken(limits: &[Limit]) -> Result<(), Fault>
+    ensures { RefusesFirst (λ i. Broken (slice_index_or limits.now i (limit 0 0 0))) Parameter result }
+{
+    let broken = limits.iter().position(|limit| limit.value < limit.least
+        || limit.most < limit.value);
+    match broken {
+        Some(i) => Err(Fault::Parameter(i)),
+        None => Ok(()),
+    }
+}
+
 impl Parameters {
     fn limits(&self) -> [Limit; 8]
         ensures { result ≡ limits self.now }
@@ -58,12 +70,7 @@ impl Parameters {
         ensures first { RefusesFirst (OutOfRange self.now) Parameter result }
         ensures uncut { is_ok result ≡ true → Uncut self.now }
     {
-        for (i, limit) in self.limits().iter().enumerate() {
-            if limit.value < limit.least || limit.most < limit.value {
-                return Err(Fault::Parameter(i));
-            }
-        }
-        Ok(())
+        first_broken(&self.limits())
     }
 }
 
@@ -78,22 +85,13 @@ pub struct Banded {
 impl Banded {
     /// The model of these parameters, with zero modes and zero values where their check fails.
     pub fn new(parameters: Parameters) -> Banded
-        ensures { MadeOf (AllInRange parameters) (banded parameters) (banded result.parameters) }
+        ensures { MadeOf (AllInRange parameters) (banded parameters) (⟦<Banded as ModeModel>⟧.meaning result) }
     {
-        if let Err(_) = parameters.check() {
+        let Ok(()) = parameters.check() else {
             return Banded {
-                parameters: Parameters {
-                    modes: 0,
-                    values: 0,
-                    band: 0,
-                    hop: 0,
-                    rate: 0,
-                    slope: 0,
-                    centre: 0,
-                    spacing: 0,
-                },
+                parameters: Parameters::default(),
             };
-        }
+        };
         Banded { parameters }
     }
 }

@@ -23,12 +23,10 @@ pub struct DenseTable<'a> {
 fn first_entry_above(numbers: &[u32]) -> Result<(), Fault>
     ensures { RefusesFirst (λ i. MOST_ENTRY < slice_index numbers.now i) TableEntry result }
 {
-    for (i, n) in numbers.iter().enumerate() {
-        if *n > 655359 {
-            return Err(Fault::TableEntry(i));
-        }
+    match numbers.iter().position(|n| *n > 655359) {
+        Some(i) => Err(Fault::TableEntry(i)),
+        None => Ok(()),
     }
-    Ok(())
 }
 
 impl<'a> DenseTable<'a> {
@@ -48,7 +46,7 @@ impl<'a> DenseTable<'a> {
 
     /// The model of this table, with zero modes and zero values where its check fails.
     pub fn new(modes: usize, values: usize, numbers: &'a [u32]) -> DenseTable<'a>
-        ensures { MadeOf (SoundTable modes values numbers.now) (dense modes values numbers.now) (dense result.modes result.values result.numbers.now) }
+        ensures { MadeOf (SoundTable modes values numbers.now) (dense modes values numbers.now) (⟦<DenseTable<'a> as ModeModel>⟧.meaning result) }
     {
         match DenseTable::check(modes, values, numbers) {
             Ok(()) => DenseTable {

@@ -7,9 +7,11 @@ ghost use Rattle.model.specs.Meaning.{Meaning, OutsideIsWorst};
 use cost::Charge;
 
 mod banded;
+mod costs;
 mod dense;
 
 pub use banded::{Banded, Parameters};
+pub use costs::Costs;
 pub use dense::DenseTable;
 
 /// A model, by its meaning: what it answers to every question. Modes and values count from 0.

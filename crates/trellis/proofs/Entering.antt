@@ -1,8 +1,8 @@
 -- The best way into a mode is from its chosen predecessor.
-use Rattle.std.proofs.Common.{◌≡◌, ℕ, zero, suc, ◌+◌, ◌*◌, ◌<◌, ◌≤◌, ◌⊎◌, List, [], ◌∷◌, ◌++◌, length, Some, None, Option, sym, refl, ap, ◌∙◌, subst, inl, inr, add-one, arith}
+use Rattle.std.proofs.Common.{◌≡◌, ℕ, zero, suc, ◌+◌, ◌*◌, ◌<◌, ◌≤◌, ◌⊎◌, List, [], ◌∷◌, ◌++◌, length, Some, None, Option, sym, refl, ap, ◌∙◌, subst, inl, inr, add-one, arith, option_and_then}
 use Rattle.cost.specs.declared.charge.Charge.{Charge}
 use Rattle.cost.specs.declared.charge.Total.{Total}
-use Rattle.cost.specs.Kind.{Kind, MOST, and_then, sum, carried_of}
+use Rattle.cost.specs.Kind.{Kind, MOST, sum, carried_of}
 use Rattle.cost.proofs.Arising.{added_append}
 use Rattle.model.specs.Meaning.{Meaning}
 use Rattle.viterbi.specs.Lists.{EndsIn}
@@ -65,7 +65,7 @@ module _ (K : Kind) where
     into_more s b r a next h l is_a is_h through picks inv o held =
         let m = held s l in
         let after = room_next K 1 (o s) (M.passage s t) m.1 in
-        let e : next ≡ carried_of K (and_then (o s) (λ c. sum K c (M.passage s t ∷ []))) = through' (o s) (λ c i. room_less 1 c (m.1 c i)) m.0 in
+        let e : next ≡ carried_of K (option_and_then (λ c. sum K c (M.passage s t ∷ [])) (o s)) = through' (o s) (λ c i. room_less 1 c (m.1 c i)) m.0 in
         rw add-one (picks (least_of K s (passage K M o t)) _ (λ c u i. room_less 0 c (ways_room o held s (omega arith) c u i)) (λ c i. room_less 0 c (after c i)) (inv o held) e)
       where
         through' : Through K (total_at row s) (M.passage s t) next
@@ -104,7 +104,7 @@ module _ (K : Kind) where
       ways = passage K M costs t
 
       -- an extended cost, in two steps
-      halves : (c : K.Cost) (s : ℕ) → extended K M c s t r ≡ and_then (sum K c (M.passage s t ∷ [])) (λ d. sum K d (M.reading t r ∷ []))
+      halves : (c : K.Cost) (s : ℕ) → extended K M c s t r ≡ option_and_then (λ d. sum K d (M.reading t r ∷ [])) (sum K c (M.passage s t ∷ []))
       halves c s = added_append K.cost_of K.add c (M.passage s t ∷ []) (M.reading t r ∷ [])
 
       -- a path that goes on to t: its way, and the reading after it
@@ -117,7 +117,7 @@ module _ (K : Kind) where
       steps s q e f h i =
           let w = split_then (sum K e (M.passage s t ∷ [])) (λ d. sum K d (M.reading t r ∷ [])) f (sym (halves e s) ∙ i) in
           let o = ((suffice K M).stand (x ∷ xs) s e).1 (q, h) in
-          record { between = w.0; way = ap (λ o. from K (and_then o (λ c. sum K c (M.passage s t ∷ []))) s) o.1 ∙ ap (λ o. from K o s) w.1; reads = w.2 }
+          record { between = w.0; way = ap (λ o. from K (option_and_then (λ c. sum K c (M.passage s t ∷ [])) o) s) o.1 ∙ ap (λ o. from K o s) w.1; reads = w.2 }
 
       -- what a reachable mode comes from
       comes : Reachable K M (x ∷ xs ++ r ∷ []) t → (s : ℕ) × (f : K.Cost) × (s < M.modes) × Steps s f
@@ -134,14 +134,14 @@ module _ (K : Kind) where
         module _ (d : K.Cost) (reads : sum K a.what.0 (M.reading t r ∷ []) ≡ Some d) where
           enters : EntersBy K M (x ∷ xs) r t (Some (best (K.carried d) a.what.1))
           enters =
-              let y = split_then (and_then (costs s) (λ c. sum K c (M.passage s t ∷ []))) (λ c. Some (c, s)) a.what a.reads in
+              let y = split_then (option_and_then (λ c. sum K c (M.passage s t ∷ [])) (costs s)) (λ c. Some (c, s)) a.what a.reads in
               let z = split_then (costs s) (λ c. sum K c (M.passage s t ∷ [])) y.0 y.1 in
               let is : (y.0, s) ≡ a.what = some_same {A = K.Cost × ℕ} (y.0, s) a.what y.2 in
               let h = ((suffice K M).stand (x ∷ xs) s z.0).0 (a.inside, z.1) in
               let chosen : Chosen K M (x ∷ xs) r t s h.0 z.0 d = record {
                 cheapest = h.1;
                 below = below;
-                makes = halves z.0 s ∙ ap (λ o. and_then o (λ d. sum K d (M.reading t r ∷ []))) z.2 ∙ subst (λ z. sum K z (M.reading t r ∷ []) ≡ Some d) (sym (ap (λ (y : K.Cost × ℕ). y.0) is)) reads;
+                makes = halves z.0 s ∙ ap (λ o. option_and_then (λ d. sum K d (M.reading t r ∷ [])) o) z.2 ∙ subst (λ z. sum K z (M.reading t r ∷ []) ≡ Some d) (sym (ap (λ (y : K.Cost × ℕ). y.0) is)) reads;
                 least = λ u q e f k i.
                     let l = steps u q e f k i in
                     at u f l (a.least u (l.between, u) (end_below K M (x ∷ xs) q e u k.is_open k.ends) l.way);

@@ -1,8 +1,8 @@
 -- A row that is written mode by mode.
-use Rattle.std.proofs.Common.{◌≡◌, ℕ, ◌+◌, ◌<◌, Bool, true, false, ◌||◌, ◌⊎◌, ◌↔◌, List, [], ◌∷◌, ◌++◌, length, get_or, set, is_some, Some, None, MatchBool, Option, sym, refl, ap, ◌∙◌, subst, inl, inr, add-one, arith}
+use Rattle.std.proofs.Common.{◌≡◌, ℕ, ◌+◌, ◌<◌, Bool, true, false, ◌||◌, ◌⊎◌, ◌↔◌, List, [], ◌∷◌, ◌++◌, length, get_or, set, is_some, Some, None, MatchBool, Option, sym, refl, ap, ◌∙◌, subst, inl, inr, add-one, arith, option_and_then}
 use Rattle.std.proofs.lemmas.List.{get_or-set_same, get_or-set_other}
 use Rattle.cost.specs.declared.charge.Total.{Total}
-use Rattle.cost.specs.Kind.{Kind, and_then, carried_of}
+use Rattle.cost.specs.Kind.{Kind, carried_of}
 use Rattle.model.specs.Meaning.{Meaning}
 use Rattle.viterbi.specs.Paths.{Reading, Log, cost, Reachable, CheapestTo, Chosen}
 use Rattle.viterbi.proofs.Steps.{not_none, some_same}
@@ -114,13 +114,13 @@ module _ (K : Kind) (M : Meaning) (r : Reading) (row₀ row : List (Option Total
   start : (t : ℕ) → t < M.modes → Start t
   start t l = at (cost K M (r ∷ []) (t ∷ [])) refl (f.each t l).0 (f.each t l).1
     where
-      at : (o : Option K.Cost) → cost K M (r ∷ []) (t ∷ []) ≡ o → total_at row t ≡ carried_of K (cost K M (r ∷ []) (t ∷ [])) → from_at from t ≡ and_then (total_at row t) (λ _. Some t) → Start t
+      at : (o : Option K.Cost) → cost K M (r ∷ []) (t ∷ []) ≡ o → total_at row t ≡ carried_of K (cost K M (r ∷ []) (t ∷ [])) → from_at from t ≡ option_and_then (λ _. Some t) (total_at row t) → Start t
       at None e w s =
           let n : total_at row t ≡ None = w ∙ ap (carried_of K) e in
-          inl (n, s ∙ ap (λ o. and_then o (λ _. Some t)) n, λ h. let k = exists K M (r ∷ []) t h in not_none (k.1, k.0) (sym (ap (λ o. and_then o (λ d. Some (d, t ∷ []))) e) ∙ ((survivor_is K M (r ∷ []) t k.0 k.1).1 k.2).1))
+          inl (n, s ∙ ap (λ o. option_and_then (λ _. Some t) o) n, λ h. let k = exists K M (r ∷ []) t h in not_none (k.1, k.0) (sym (ap (λ o. option_and_then (λ d. Some (d, t ∷ [])) o) e) ∙ ((survivor_is K M (r ∷ []) t k.0 k.1).1 k.2).1))
       at (Some c) e w s =
           let n : total_at row t ≡ Some (K.carried c) = w ∙ ap (carried_of K) e in
-          inr (c, (survivor_is K M (r ∷ []) t (t ∷ []) c).0 (l, ap (λ o. and_then o (λ d. Some (d, t ∷ []))) e), n, s ∙ ap (λ o. and_then o (λ _. Some t)) n)
+          inr (c, (survivor_is K M (r ∷ []) t (t ∷ []) c).0 (l, ap (λ o. option_and_then (λ d. Some (d, t ∷ [])) o) e), n, s ∙ ap (λ o. option_and_then (λ _. Some t) o) n)
 
   starts : (t : ℕ) (c : K.Cost) → CheapestTo K M (r ∷ []) t (t ∷ []) c → Reachable K M (r ∷ []) t
   starts t c h = (t ∷ [], c, h.is_open, h.ends)
@@ -157,7 +157,7 @@ pub some_from : (b : Option Best) → is_some b ≡ is_some (best_from b)
 some_from None = refl
 some_from (Some b) = refl
 
-pub some_mark : (w : Option Total) (t : ℕ) → is_some w ≡ is_some (and_then w (λ _. Some t))
+pub some_mark : (w : Option Total) (t : ℕ) → is_some w ≡ is_some (option_and_then (λ _. Some t) w)
 some_mark None t = refl
 some_mark (Some w) t = refl
 
@@ -176,7 +176,7 @@ module _ (K : Kind) (M : Meaning) (n : ℕ) (old row₀ row : List (Option Total
   pub next_backed : AllBacked n old from
   next_backed t s l e = let k = f.each t l in k.backed s (sym k.from ∙ e)
 
-marked : (w : Option Total) (t s : ℕ) → and_then w (λ _. Some t) ≡ Some s → s ≡ t
+marked : (w : Option Total) (t s : ℕ) → option_and_then (λ _. Some t) w ≡ Some s → s ≡ t
 marked None t s e = absurd (not_none s e)
 marked (Some w) t s e = sym (some_same t s e)
 

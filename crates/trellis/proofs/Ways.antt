@@ -1,8 +1,8 @@
 -- One more charge on a cost, and the better of two, as they are carried.
-use Rattle.std.proofs.Common.{◌≡◌, ℕ, ◌+◌, true, false, ◌⊎◌, [], ◌∷◌, ◌++◌, Some, None, Option, sym, refl, ap, ◌∙◌, subst, inl, inr, arith}
+use Rattle.std.proofs.Common.{◌≡◌, ℕ, ◌+◌, true, false, ◌⊎◌, [], ◌∷◌, ◌++◌, Some, None, Option, sym, refl, ap, ◌∙◌, subst, inl, inr, arith, option_and_then}
 use Rattle.cost.specs.declared.charge.Charge.{Charge}
 use Rattle.cost.specs.declared.charge.Total.{Total}
-use Rattle.cost.specs.Kind.{Kind, and_then, sum, Carries, carried_of, Charged, Compared}
+use Rattle.cost.specs.Kind.{Kind, sum, Carries, carried_of, Charged, Compared}
 use Rattle.std.proofs.lemmas.List.{length_push}
 use Rattle.cost.proofs.Arising.{added_append, carried_from}
 use Rattle.viterbi.proofs.Steps.{split_then}
@@ -15,20 +15,20 @@ module _ (K : Kind) where
   with_charge t h r c charged m e = charged m.charges c (omega (arith, m.few)) m.comes e
 
   -- a cost with one more charge has room for one less
-  pub room_next : (n : ℕ) (o : Option K.Cost) (h : Charge) → HasRoom K (n + 1) o → HasRoom K n (and_then o (λ c. sum K c (h ∷ [])))
+  pub room_next : (n : ℕ) (o : Option K.Cost) (h : Charge) → HasRoom K (n + 1) o → HasRoom K n (option_and_then (λ c. sum K c (h ∷ [])) o)
   room_next n o h room d e =
       let w = split_then o (λ c. sum K c (h ∷ [])) d e in
       let m = room w.0 w.1 in
       record {
         charges = m.charges ++ h ∷ [];
         few = omega (arith, m.few, length_push m.charges h);
-        comes = added_append K.cost_of K.add K.zero m.charges (h ∷ []) ∙ ap (λ o. and_then o (λ c. sum K c (h ∷ []))) m.comes ∙ w.2;
+        comes = added_append K.cost_of K.add K.zero m.charges (h ∷ []) ∙ ap (λ o. option_and_then (λ c. sum K c (h ∷ [])) o) m.comes ∙ w.2;
       }
 
   pub through : (t : Total) (h : Charge) (r a : Option Total) → a ≡ Some t → Charged K t h r → Through K a h r
   through t h r a is charged o room e =
       let y = carried_from K o t (sym is ∙ e) in
-      with_charge t h r y.0 charged (room y.0 y.1) y.2 ∙ sym (ap (λ o. carried_of K (and_then o (λ c. sum K c (h ∷ [])))) y.1)
+      with_charge t h r y.0 charged (room y.0 y.1) y.2 ∙ sym (ap (λ o. carried_of K (option_and_then (λ c. sum K c (h ∷ [])) o)) y.1)
 
   -- a way that is carried
   pub way_from : (w : Way K) (b : Best) → Some b ≡ carried_way K w → (c : K.Cost) × (w ≡ Some (c, b.from)) × (b.total ≡ K.carried c)
@@ -38,14 +38,14 @@ module _ (K : Kind) where
       (y.0, ap (λ s. Some (y.0, s)) (sym (ap (λ (b : Best). b.from) same)), ap (λ (b : Best). b.total) same)
 
   -- what a carried cost is as a way from s
-  carried_way_lem : (o : Option K.Cost) (s : ℕ) → and_then (carried_of K o) (λ t. Some (best t s)) ≡ carried_way K (from K o s)
+  carried_way_lem : (o : Option K.Cost) (s : ℕ) → option_and_then (λ t. Some (best t s)) (carried_of K o) ≡ carried_way K (from K o s)
   carried_way_lem None s = refl
   carried_way_lem (Some c) s = refl
 
-  pub arrived : (b : Best) (h : Charge) (t : Option Total) (a : Option Best) → a ≡ Some b → Charged K b.total h t → Arrived K a h (and_then t (λ x. Some (best x b.from)))
+  pub arrived : (b : Best) (h : Charge) (t : Option Total) (a : Option Best) → a ≡ Some b → Charged K b.total h t → Arrived K a h (option_and_then (λ x. Some (best x b.from)) t)
   arrived b h t a is charged w room e =
       let y = way_from w b (sym is ∙ e) in
-      ap (λ o. and_then o (λ x. Some (best x b.from))) (with_charge b.total h t y.0 charged (room y.0 b.from y.1) y.2)
+      ap (λ o. option_and_then (λ x. Some (best x b.from)) o) (with_charge b.total h t y.0 charged (room y.0 b.from y.1) y.2)
       ∙ carried_way_lem (sum K y.0 (h ∷ [])) b.from
       ∙ sym (ap (λ w. carried_way K (and K w h)) y.1)
 

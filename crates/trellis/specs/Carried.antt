@@ -1,8 +1,8 @@
 -- Costs that may be missing, as they are carried.
-use Rattle.std.specs.Prelude.{◌≡◌, ℕ, ◌+◌, ◌≤◌, true, ◌⊎◌, List, [], ◌∷◌, length, is_some, Some, Option}
+use Rattle.std.specs.Prelude.{◌≡◌, ℕ, ◌+◌, ◌≤◌, true, ◌⊎◌, List, [], ◌∷◌, length, is_some, Some, Option, option_and_then}
 use Rattle.cost.specs.declared.charge.Charge.{Charge}
 use Rattle.cost.specs.declared.charge.Total.{Total}
-use Rattle.cost.specs.Kind.{Kind, MOST, and_then, sum, carried_of}
+use Rattle.cost.specs.Kind.{Kind, MOST, sum, carried_of}
 use Rattle.viterbi.specs.Algorithm.{better}
 use Rattle.trellis.specs.declared.best.Best.{Best}
 
@@ -18,11 +18,11 @@ Way K = Option (K.Cost × ℕ)
 
 -- The cost o, if there is one, and its mode s.
 abbrev pub from : (K : Kind) → Option K.Cost → ℕ → Way K
-from K o s = and_then o (λ c. Some (c, s))
+from K o s = option_and_then (λ c. Some (c, s)) o
 
 -- The way with one more charge.
 abbrev pub and : (K : Kind) → Way K → Charge → Way K
-and K o h = and_then o (λ y. from K (sum K y.0 (h ∷ [])) y.1)
+and K o h = option_and_then (λ y. from K (sum K y.0 (h ∷ [])) y.1) o
 
 -- The total t, from the mode s.
 abbrev pub best : Total → ℕ → Best
@@ -30,7 +30,7 @@ best t s = record { total = t; from = s }
 
 -- What a way is carried as.
 abbrev pub carried_way : (K : Kind) → Way K → Option Best
-carried_way K o = and_then o (λ y. Some (best (K.carried y.0) y.1))
+carried_way K o = option_and_then (λ y. Some (best (K.carried y.0) y.1)) o
 
 -- n more charges can be added to the cost, if there is one.
 abbrev pub HasRoom : (K : Kind) → ℕ → Option K.Cost → Type 0
@@ -42,7 +42,7 @@ WayHasRoom K n o = (c : K.Cost) (s : ℕ) → o ≡ Some (c, s) → Room K n c
 
 -- r is the cost that a carries, with the charge h.
 abbrev pub Through : Kind → Option Total → Charge → Option Total → Type 0
-Through K a h r = (o : Option K.Cost) → HasRoom K 1 o → a ≡ carried_of K o → r ≡ carried_of K (and_then o (λ c. sum K c (h ∷ [])))
+Through K a h r = (o : Option K.Cost) → HasRoom K 1 o → a ≡ carried_of K o → r ≡ carried_of K (option_and_then (λ c. sum K c (h ∷ [])) o)
 
 -- r is the better of the way b and the cost a, which comes from s and loses a tie.
 abbrev pub Better : Kind → Option Best → Option Total → ℕ → Option Best → Type 0
@@ -54,11 +54,11 @@ Arrived K b h r = (w : Way K) → WayHasRoom K 1 w → b ≡ carried_way K w →
 
 -- The total of a way, if there is one.
 abbrev pub best_total : Option Best → Option Total
-best_total o = and_then o (λ b. Some b.total)
+best_total o = option_and_then (λ b. Some b.total) o
 
 -- The mode that a way comes from, if there is one.
 abbrev pub best_from : Option Best → Option ℕ
-best_from o = and_then o (λ b. Some b.from)
+best_from o = option_and_then (λ b. Some b.from) o
 
 -- r is the best so far, or comes from s, which has a total.
 abbrev pub OneOf : Option Best → Option Total → ℕ → Option Best → Type 0

@@ -1,7 +1,7 @@
 -- Rows of totals, one for each mode.
-use Rattle.std.specs.Prelude.{◌≡◌, ℕ, ◌<◌, ◌≤◌, Bool, true, ◌↔◌, List, [], ◌∷◌, ◌++◌, length, is_some, Some, None, MatchBool, Option, slice_index_or}
+use Rattle.std.specs.Prelude.{◌≡◌, ℕ, ◌<◌, ◌≤◌, Bool, true, ◌↔◌, List, [], ◌∷◌, ◌++◌, length, is_some, Some, None, MatchBool, Option, slice_index_or, option_and_then}
 use Rattle.cost.specs.declared.charge.Total.{Total}
-use Rattle.cost.specs.Kind.{Kind, and_then, sum, carried_of}
+use Rattle.cost.specs.Kind.{Kind, sum, carried_of}
 use Rattle.model.specs.Meaning.{Meaning}
 use Rattle.viterbi.specs.Lists.{EndsIn}
 use Rattle.viterbi.specs.Paths.{Reading, Log, Reachable, CheapestTo, CheapestOf, Chosen, cost}
@@ -31,7 +31,7 @@ Held K k n o row = (s : ℕ) → s < k → (total_at row s ≡ carried_of K (o s
 
 -- The way from s to t, before the reading is charged.
 abbrev pub passage : (K : Kind) → Meaning → (ℕ → Option K.Cost) → ℕ → ℕ → Way K
-passage K M o t s = from K (and_then (o s) (λ c. sum K c (M.passage s t ∷ []))) s
+passage K M o t s = from K (option_and_then (λ c. sum K c (M.passage s t ∷ [])) (o s)) s
 
 -- Of the ways from the first n of k modes to t, r is the first of least cost.
 abbrev pub Into : Kind → Meaning → ℕ → List (Option Total) → ℕ → ℕ → Option Best → Type 0
@@ -121,7 +121,7 @@ pub record EnteredBy (K : Kind) (M : Meaning) (n : ℕ) (old : List (Option Tota
 
 -- The mode t has the total w of one reading, and itself as predecessor s, where it is reachable.
 abbrev pub BegunBy : Kind → Meaning → Reading → ℕ → Option Total → Option ℕ → Type 0
-BegunBy K M r t w s = (w ≡ carried_of K (cost K M (r ∷ []) (t ∷ []))) × (s ≡ and_then w (λ _. Some t))
+BegunBy K M r t w s = (w ≡ carried_of K (cost K M (r ∷ []) (t ∷ []))) × (s ≡ option_and_then (λ _. Some t) w)
 
 -- The modes below n have totals exactly where they have predecessors, and any says whether there is one.
 pub record Marked (n : ℕ) (row : List (Option Total)) (from : List (Option ℕ)) (any : Bool) : Type 0 where

@@ -1,5 +1,5 @@
-ghost use Rattle.std.specs.Prelude.{◌≡◌, ℕ, ◌≤◌, [], ◌∷◌, Some};
-ghost use Rattle.cost.specs.Kind.{and_then, carried_of};
+ghost use Rattle.std.specs.Prelude.{◌≡◌, ℕ, ◌≤◌, [], ◌∷◌, Some, option_and_then};
+ghost use Rattle.cost.specs.Kind.{carried_of};
 ghost use Rattle.viterbi.specs.Paths.{cost};
 ghost use Rattle.trellis.specs.Rows.{MODES, Into, Entered, Backed, Advances, First, Ends, Marked, AllBacked, AllThemselves, Beyond};
 ghost use Rattle.trellis.specs.Carried.{best_total, best_from};
@@ -130,7 +130,7 @@ pub fn first_row<M: Model, C: CostKind>(
 
 /// The mode, if it has a total.
 fn mark(total: Option<Total>, mode: u8) -> Option<u8>
-    ensures { result ≡ and_then total (λ _. Some mode) }
+    ensures { result ≡ option_and_then (λ _. Some mode) total }
 {
     match total {
         Some(_) => Some(mode),

@@ -1,8 +1,8 @@
 -- Viterbi's algorithm finds the cheapest paths; so they exist, and grow by one step.
-use Rattle.std.proofs.Common.{◌≡◌, ℕ, zero, suc, ◌<◌, ◌≤◌, ◌⊎◌, List, [], ◌∷◌, ◌++◌, length, Some, None, Option, sym, refl, ap, ◌∙◌, subst, inl, inr, arith}
+use Rattle.std.proofs.Common.{◌≡◌, ℕ, zero, suc, ◌<◌, ◌≤◌, ◌⊎◌, List, [], ◌∷◌, ◌++◌, length, Some, None, Option, sym, refl, ap, ◌∙◌, subst, inl, inr, arith, option_and_then}
 use Rattle.std.specs.List.{AllByRecursion}
 use Rattle.std.proofs.lemmas.List.{length_push, append_assoc, append-nil, nil_from_length}
-use Rattle.cost.specs.Kind.{Kind, and_then}
+use Rattle.cost.specs.Kind.{Kind}
 use Rattle.model.specs.Meaning.{Meaning}
 use Rattle.viterbi.specs.Lists.{EndsIn}
 use Rattle.viterbi.specs.Paths.{cost, extended, Open, CheapestTo, Chosen, Reading, Log}
@@ -99,7 +99,7 @@ module _ (K : Kind) (M : Meaning) where
 
   module _ (x : Reading) (xs : Log) (r : Reading) (v : ℕ → Option (Kept K)) (g : Right (x ∷ xs) v) (t : ℕ) (below : t < M.modes) where
     abbrev choices : ℕ → Option (Kept K)
-    choices s = and_then (v s) (go_on K M s t r)
+    choices s = option_and_then (go_on K M s t r) (v s)
 
     -- a cheapest path that may go on to t is among the choices
     among : (s : ℕ) (p : List ℕ) (c d : K.Cost) → CheapestTo K M (x ∷ xs) s p c → extended K M c s t r ≡ Some d → choices s ≡ Some (d, p ++ t ∷ [])

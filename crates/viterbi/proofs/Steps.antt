@@ -1,9 +1,9 @@
 -- One reading more: how open paths and their costs grow at the end.
-use Rattle.std.proofs.Common.{◌≡◌, ℕ, suc, ◌<◌, List, [], ◌∷◌, ◌++◌, length, Some, None, Option, sym, refl, ap, ◌∙◌, subst, arith}
+use Rattle.std.proofs.Common.{◌≡◌, ℕ, suc, ◌<◌, List, [], ◌∷◌, ◌++◌, length, Some, None, Option, sym, refl, ap, ◌∙◌, subst, arith, option_and_then}
 use Rattle.std.proofs.lemmas.List.{length_push}
 use Rattle.std.proofs.ByRecursion.{All-push}
 use Rattle.cost.specs.declared.charge.Charge.{Charge}
-use Rattle.cost.specs.Kind.{Kind, sum, and_then}
+use Rattle.cost.specs.Kind.{Kind, sum}
 use Rattle.model.specs.Meaning.{Meaning}
 use Rattle.viterbi.specs.Lists.{EndsIn}
 use Rattle.viterbi.specs.Paths.{later, charges, cost, extended, Open, Reading, Log}
@@ -27,7 +27,7 @@ module _ (K : Kind) where
   pub sum_less : (hs : List Charge) (b c d : K.Cost) → K.Less b c → sum K c hs ≡ Some d → (e : K.Cost) × (sum K b hs ≡ Some e) × K.Less e d
   sum_less [] b c d l e = (b, refl, subst (K.Less b) (some_same c d e) l)
   sum_less (h ∷ hs) b c d l e =
-      (elim (K.cost_of h) as (λ o. and_then o (λ x. sum K (K.add c x) hs) ≡ Some d → (f : K.Cost) × (and_then o (λ x. sum K (K.add b x) hs) ≡ Some f) × K.Less f d) [
+      (elim (K.cost_of h) as (λ o. option_and_then (λ x. sum K (K.add c x) hs) o ≡ Some d → (f : K.Cost) × (option_and_then (λ x. sum K (K.add b x) hs) o ≡ Some f) × K.Less f d) [
         | None ↦ λ i. absurd (not_none d i)
         | Some x ↦ λ i. sum_less hs (K.add b x) (K.add c x) d (K.add_less b c x l) i
       ]) e
@@ -36,17 +36,17 @@ module _ (K : Kind) where
   pub sum_defined : (hs : List Charge) (b c d : K.Cost) → sum K c hs ≡ Some d → (e : K.Cost) × (sum K b hs ≡ Some e)
   sum_defined [] b c d e = (b, refl)
   sum_defined (h ∷ hs) b c d e =
-      (elim (K.cost_of h) as (λ o. and_then o (λ x. sum K (K.add c x) hs) ≡ Some d → (f : K.Cost) × (and_then o (λ x. sum K (K.add b x) hs) ≡ Some f)) [
+      (elim (K.cost_of h) as (λ o. option_and_then (λ x. sum K (K.add c x) hs) o ≡ Some d → (f : K.Cost) × (option_and_then (λ x. sum K (K.add b x) hs) o ≡ Some f)) [
         | None ↦ λ i. absurd (not_none d i)
         | Some x ↦ λ i. sum_defined hs (K.add b x) (K.add c x) d i
       ]) e
 
-pub split_then : {A B : Type 0} (o : Option A) (f : A → Option B) (d : B) → and_then o f ≡ Some d → (c : A) × (o ≡ Some c) × (f c ≡ Some d)
+pub split_then : {A B : Type 0} (o : Option A) (f : A → Option B) (d : B) → option_and_then f o ≡ Some d → (c : A) × (o ≡ Some c) × (f c ≡ Some d)
 split_then None f d e = absurd (not_none d e)
 split_then (Some c) f d e = (c, refl, e)
 
 module _ (K : Kind) (M : Meaning) where
-  pub cost_push : (x : Reading) (u : ℕ) (xs : Log) (us : List ℕ) (r : Reading) (t : ℕ) → length us ≡ length xs → cost K M (x ∷ xs ++ r ∷ []) (u ∷ us ++ t ∷ []) ≡ and_then (cost K M (x ∷ xs) (u ∷ us)) (λ c. extended K M c (last_of u us) t r)
+  pub cost_push : (x : Reading) (u : ℕ) (xs : Log) (us : List ℕ) (r : Reading) (t : ℕ) → length us ≡ length xs → cost K M (x ∷ xs ++ r ∷ []) (u ∷ us ++ t ∷ []) ≡ option_and_then (λ c. extended K M c (last_of u us) t r) (cost K M (x ∷ xs) (u ∷ us))
   cost_push x u xs us r t n =
       ap (λ (l : List Charge). sum K K.zero (M.start u ∷ M.reading u x ∷ l)) (later_push M u xs us r t n) ∙ added_append K.cost_of K.add K.zero (charges M (x ∷ xs) (u ∷ us)) (M.passage (last_of u us) t ∷ M.reading t r ∷ [])
 

@@ -1,7 +1,7 @@
 -- The totals alone suffice to choose and to go on.
-use Rattle.std.proofs.Common.{◌≡◌, ℕ, ◌<◌, ◌≤◌, ◌⊎◌, List, [], ◌∷◌, ◌++◌, Some, None, Option, sym, refl, ap, ◌∙◌, subst, inl, inr}
+use Rattle.std.proofs.Common.{◌≡◌, ℕ, ◌<◌, ◌≤◌, ◌⊎◌, List, [], ◌∷◌, ◌++◌, Some, None, Option, sym, refl, ap, ◌∙◌, subst, inl, inr, option_and_then}
 use Rattle.std.proofs.lemmas.List.{same_from_push}
-use Rattle.cost.specs.Kind.{Kind, and_then}
+use Rattle.cost.specs.Kind.{Kind}
 use Rattle.model.specs.Meaning.{Meaning}
 use Rattle.viterbi.specs.Paths.{extended, CheapestTo, Chosen, Reading, Log}
 use Rattle.viterbi.specs.Algorithm.{Kept, survivors, totals, offer, choice}
@@ -20,7 +20,7 @@ module _ (K : Kind) (M : Meaning) where
       (x.1, subst (CheapestTo K M xs t x.1) (some_same x.0 c w.2) ((survivor_is K M xs t x.1 x.0).0 (l, w.1)))
 
   total_to : (xs : Log) (t : ℕ) (p : List ℕ) (c : K.Cost) → CheapestTo K M xs t p c → (t < M.modes) × (totals K M xs t ≡ Some c)
-  total_to xs t p c h = let s = (survivor_is K M xs t p c).1 h in (s.0, ap (λ o. and_then o (λ (x : Kept K). Some x.0)) s.1)
+  total_to xs t p c h = let s = (survivor_is K M xs t p c).1 h in (s.0, ap (λ o. option_and_then (λ (x : Kept K). Some x.0) o) s.1)
 
   module _ (x : Reading) (xs : Log) (r : Reading) (t : ℕ) (below : t < M.modes) where
     abbrev offers : ℕ → Option (K.Cost × ℕ)
@@ -34,7 +34,7 @@ module _ (K : Kind) (M : Meaning) where
 
     took : (o : Option (K.Cost × ℕ)) (a : program.Found K M.modes offers o) → Took a.what
     took o a =
-        let w = split_then (totals K M (x ∷ xs) a.place) (λ (c : K.Cost). and_then (extended K M c a.place t r) (λ (d : K.Cost). Some (d, a.place))) a.what a.reads in
+        let w = split_then (totals K M (x ∷ xs) a.place) (λ (c : K.Cost). option_and_then (λ (d : K.Cost). Some (d, a.place)) (extended K M c a.place t r)) a.what a.reads in
         let c = w.0 in
         let z = split_then (extended K M c a.place t r) (λ (d : K.Cost). Some (d, a.place)) a.what w.2 in
         let b = total_from (x ∷ xs) a.place c a.inside w.1 in
@@ -83,11 +83,11 @@ module _ (K : Kind) (M : Meaning) where
         let k = o.4.cheapest in
         absurd (not_none (d, o.0) (sym (n o.0 (total_to (x ∷ xs) o.0 o.1 o.2 k).0) ∙ offered o.0 o.1 o.2 d k o.4.makes))
 
-    next_at : Least K M.modes offers (choice K M (totals K M (x ∷ xs)) r t) → totals K M (x ∷ xs ++ r ∷ []) t ≡ and_then (choice K M (totals K M (x ∷ xs)) r t) (λ y. Some y.0)
-    next_at (inl n) = none_next n.1 (totals K M (x ∷ xs ++ r ∷ []) t) refl ∙ sym (ap (λ (o : Option (K.Cost × ℕ)). and_then o (λ y. Some y.0)) n.0)
+    next_at : Least K M.modes offers (choice K M (totals K M (x ∷ xs)) r t) → totals K M (x ∷ xs ++ r ∷ []) t ≡ option_and_then (λ y. Some y.0) (choice K M (totals K M (x ∷ xs)) r t)
+    next_at (inl n) = none_next n.1 (totals K M (x ∷ xs ++ r ∷ []) t) refl ∙ sym (ap (λ (o : Option (K.Cost × ℕ)). option_and_then (λ y. Some y.0) o) n.0)
     next_at (inr a) =
         let h = took (choice K M (totals K M (x ∷ xs)) r t) a in
-        (total_to (x ∷ xs ++ r ∷ []) t (h.0 ++ t ∷ []) a.what.0 (grows a.what h)).1 ∙ sym (ap (λ (o : Option (K.Cost × ℕ)). and_then o (λ y. Some y.0)) a.is)
+        (total_to (x ∷ xs ++ r ∷ []) t (h.0 ++ t ∷ []) a.what.0 (grows a.what h)).1 ∙ sym (ap (λ (o : Option (K.Cost × ℕ)). option_and_then (λ y. Some y.0) o) a.is)
 
   pub suffice : Totals K M
   suffice = record {

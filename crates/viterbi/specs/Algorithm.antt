@@ -1,7 +1,7 @@
 -- Viterbi's algorithm: for each mode the cheapest path to it, one reading after the other.
-use Rattle.std.specs.Prelude.{◌≡◌, ℕ, zero, suc, Bool, false, cond, ◌||◌, ◌⊎◌, List, [], ◌∷◌, ◌++◌, length, Some, None, Option, ◌==◌, nat_le, slice_index}
+use Rattle.std.specs.Prelude.{◌≡◌, ℕ, zero, suc, Bool, false, cond, ◌||◌, ◌⊎◌, List, [], ◌∷◌, ◌++◌, length, Some, None, Option, ◌==◌, nat_le, slice_index, option_and_then}
 use Rattle.std.proofs.Common.{inl, inr}
-use Rattle.cost.specs.Kind.{Kind, and_then, sum}
+use Rattle.cost.specs.Kind.{Kind, sum}
 use Rattle.model.specs.Meaning.{Meaning}
 use Rattle.viterbi.specs.Paths.{Reading, Log, extended}
 
@@ -67,11 +67,11 @@ layer i b (suc n) = cond (b n) ((i, n) ∷ layer i b n) (layer i b n)
 module _ (K : Kind) (M : Meaning) where
   -- The path x to s, gone on to t at the reading r.
   abbrev pub go_on : ℕ → ℕ → Reading → Kept K → Option (Kept K)
-  go_on s t r x = and_then (extended K M x.0 s t r) (λ d. Some (d, x.1 ++ t ∷ []))
+  go_on s t r x = option_and_then (λ d. Some (d, x.1 ++ t ∷ [])) (extended K M x.0 s t r)
 
   -- The cheapest paths after one more reading.
   abbrev pub advance : (ℕ → Option (Kept K)) → Reading → ℕ → Option (Kept K)
-  advance v r t = least_of K M.modes (λ s. and_then (v s) (go_on s t r))
+  advance v r t = least_of K M.modes (λ s. option_and_then (go_on s t r) (v s))
 
   -- The cheapest paths after more readings.
   abbrev pub advanced : (ℕ → Option (Kept K)) → Log → ℕ → Option (Kept K)
@@ -80,7 +80,7 @@ module _ (K : Kind) (M : Meaning) where
 
   -- The path of one reading that is read in t.
   abbrev pub first : Reading → ℕ → Option (Kept K)
-  first r t = and_then (sum K K.zero (M.start t ∷ M.reading t r ∷ [])) (λ d. Some (d, t ∷ []))
+  first r t = option_and_then (λ d. Some (d, t ∷ [])) (sum K K.zero (M.start t ∷ M.reading t r ∷ []))
 
   -- The cheapest path to t and its cost, for each t below the number of modes.
   abbrev pub survivors : Log → ℕ → Option (Kept K)
@@ -94,11 +94,11 @@ module _ (K : Kind) (M : Meaning) where
 
   -- The cost of the cheapest path to t.
   abbrev pub totals : Log → ℕ → Option K.Cost
-  totals xs t = and_then (survivors xs t) (λ x. Some x.0)
+  totals xs t = option_and_then (λ x. Some x.0) (survivors xs t)
 
   -- What the total of s, if any, comes to at the reading r in t, with s itself.
   abbrev pub offer : Option K.Cost → ℕ → ℕ → Reading → Option (K.Cost × ℕ)
-  offer o s t r = and_then o (λ c. and_then (extended K M c s t r) (λ d. Some (d, s)))
+  offer o s t r = option_and_then (λ c. option_and_then (λ d. Some (d, s)) (extended K M c s t r)) o
 
   -- What totals alone tell of t at the reading r: the least offer, and the lowest mode that makes it.
   abbrev pub choice : (ℕ → Option K.Cost) → Reading → ℕ → Option (K.Cost × ℕ)

@@ -1,6 +1,6 @@
 -- The theorems about cheapest paths, for every kind and every model.
-use Rattle.std.specs.Prelude.{◌≡◌, ℕ, suc, ◌<◌, ◌≤◌, ◌⊎◌, ◌↔◌, List, [], ◌∷◌, ◌++◌, length, take, Some, ◌≢◌, slice_index}
-use Rattle.cost.specs.Kind.{Kind, and_then}
+use Rattle.std.specs.Prelude.{◌≡◌, ℕ, suc, ◌<◌, ◌≤◌, ◌⊎◌, ◌↔◌, List, [], ◌∷◌, ◌++◌, length, take, Some, ◌≢◌, slice_index, option_and_then}
+use Rattle.cost.specs.Kind.{Kind}
 use Rattle.model.specs.Meaning.{Meaning}
 use Rattle.viterbi.specs.Lists.{EndsIn, Begins}
 use Rattle.viterbi.specs.Paths.{Reading, Log, Reachable, CheapestTo, CheapestOf, Chosen, Survivor, Decided, Cell, Live}
@@ -82,4 +82,4 @@ module _ (K : Kind) (M : Meaning) where
   pub record Totals : Type 0 where
     pub stand : (xs : Log) (t : ℕ) (c : K.Cost) → ((t < M.modes) × (totals K M xs t ≡ Some c)) ↔ ((p : List ℕ) × CheapestTo K M xs t p c)
     pub chosen : (x : Reading) (xs : Log) (r : Reading) (t s : ℕ) (d : K.Cost) → t < M.modes → (choice K M (totals K M (x ∷ xs)) r t ≡ Some (d, s)) ↔ ((p : List ℕ) × (c : K.Cost) × Chosen K M (x ∷ xs) r t s p c d)
-    pub next : (x : Reading) (xs : Log) (r : Reading) (t : ℕ) → t < M.modes → totals K M (x ∷ xs ++ r ∷ []) t ≡ and_then (choice K M (totals K M (x ∷ xs)) r t) (λ y. Some y.0)
+    pub next : (x : Reading) (xs : Log) (r : Reading) (t : ℕ) → t < M.modes → totals K M (x ∷ xs ++ r ∷ []) t ≡ option_and_then (λ y. Some y.0) (choice K M (totals K M (x ∷ xs)) r t)
