@@ -4,7 +4,7 @@ use Rattle.std.proofs.Common.{arith}
 use Rattle.cost.specs.declared.charge.Charge.{Charge}
 use Rattle.cost.specs.Kind.{added_to}
 
--- what `and_then` gives comes from a value
+-- a value that `and_then` gives comes from a value
 pub came : {A B : Type 0} (o : Option A) (f : A → Option B) (b : B) → option_and_then f o ≡ Some b → (a : A) × (o ≡ Some a) × (f a ≡ Some b)
 came None f b e = let z : ◌≡◌ {A = ℕ} 0 1 = cc in absurd (omega arith)
 came (Some a) f b e = (a, refl, e)

@@ -2,13 +2,14 @@
 use Rattle.std.proofs.Common.{◌≡◌, ℕ, ◌-◌, ◌<◌, ◌≤◌, ◌↔◌, List, [], ◌∷◌, ◌++◌, length, get_or, take, Some, None, Option, sym, refl, ap, ◌∙◌, subst, ⊎_elim, arith}
 use Rattle.std.proofs.lemmas.Bool.{cases_lt}
 use Rattle.std.proofs.lemmas.List.{append_assoc, length-append, length_push, length-take, get_or-append_right, get_or-take, get_or_past, nil_from_length, same_from_push}
+use Rattle.std.proofs.lemmas.Option.{none-some, same_Some}
+use Rattle.cost.specs.Sums.{came}
 use Rattle.cost.specs.declared.charge.Total.{Total}
 use Rattle.cost.specs.Kind.{Kind}
 use Rattle.model.specs.Meaning.{Meaning}
 use Rattle.viterbi.specs.Lists.{Counted}
 use Rattle.viterbi.specs.Paths.{Reading, Log, cost, Reachable, CheapestTo, Survivor, Decided, LiveCell, Live}
 use Rattle.viterbi.specs.Algorithm.{Kept}
-use Rattle.viterbi.proofs.Steps.{not_none, some_same, split_then}
 use Rattle.viterbi.proofs.Algorithm.{end_below}
 use Rattle.viterbi.proofs.Growth.{exists, one_step, survivor_is, grows}
 use Rattle.trellis.specs.declared.best.Best.{Best}
@@ -26,7 +27,7 @@ use Rattle.decoder.proofs.Places.{ring_more}
 
 -- an element of the first n
 pub in_taken : {A : Type 0} (l : List (Option A)) (n u : ℕ) (s : A) → get_or (take n l) u None ≡ Some s → (u < n) × (get_or l u None ≡ Some s)
-in_taken l n u s e = ⊎_elim (λ (h : u < n). (h, sym (get_or-take n l u None h) ∙ e)) (λ (h : n ≤ u). absurd (not_none s (sym (get_or_past (take n l) u None (omega (arith, length-take n l))) ∙ e))) (cases_lt u n)
+in_taken l n u s e = ⊎_elim (λ (h : u < n). (h, sym (get_or-take n l u None h) ∙ e)) (λ (h : n ≤ u). absurd (none-some s (sym (get_or_past (take n l) u None (omega (arith, length-take n l))) ∙ e))) (cases_lt u n)
 
 module _ (K : Kind) (M : Meaning) where
   -- the cells of the tips' paths are the live ones
@@ -79,8 +80,8 @@ module _ (K : Kind) (M : Meaning) where
       only : (u : ℕ) (q : List ℕ) (c : K.Cost) → CheapestTo K M (r ∷ []) u q c → q ≡ u ∷ []
       only u q c h =
           let k = (survivor_is K M (r ∷ []) u q c).1 h in
-          let w = split_then (cost K M (r ∷ []) (u ∷ [])) (λ d. Some (d, u ∷ [])) (c, q) k.1 in
-          ap (λ (y : Kept K). y.1) (sym (some_same {A = Kept K} (w.0, u ∷ []) (c, q) w.2))
+          let w = came (cost K M (r ∷ []) (u ∷ [])) (λ d. Some (d, u ∷ [])) (c, q) k.1 in
+          ap (λ (y : Kept K). y.1) (sym (same_Some {A = Kept K} (w.0, u ∷ []) (c, q) w.2))
 
   pub next_goes : (x : Reading) (xs : Log) (r : Reading) (e : Decoder) (row : List (Option _)) (from : List (Option ℕ)) (any : _) (s : Stands K M (x ∷ xs) e) → Next K M (x ∷ xs) r row from any → GoesOn (x ∷ xs) r e.tree s.decided (take M.modes from)
   next_goes x xs r e row from any s f = record {

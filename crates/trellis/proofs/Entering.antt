@@ -1,5 +1,7 @@
 -- The best way into a mode is from its chosen predecessor.
 use Rattle.std.proofs.Common.{◌≡◌, ℕ, zero, suc, ◌+◌, ◌*◌, ◌<◌, ◌≤◌, ◌⊎◌, List, [], ◌∷◌, ◌++◌, length, Some, None, Option, sym, refl, ap, ◌∙◌, subst, inl, inr, add-one, arith, option_and_then}
+use Rattle.std.proofs.lemmas.Option.{none-some, same_Some}
+use Rattle.cost.specs.Sums.{came}
 use Rattle.cost.specs.declared.charge.Charge.{Charge}
 use Rattle.cost.specs.declared.charge.Total.{Total}
 use Rattle.cost.specs.Kind.{Kind, MOST, sum, carried_of}
@@ -8,7 +10,7 @@ use Rattle.model.specs.Meaning.{Meaning}
 use Rattle.viterbi.specs.Lists.{EndsIn}
 use Rattle.viterbi.specs.Paths.{Reading, Log, later, charges, cost, extended, Reachable, CheapestTo, Chosen}
 use Rattle.viterbi.specs.Algorithm.{chosen_of, better, least_of, totals}
-use Rattle.viterbi.proofs.Steps.{not_none, some_same, split_then, sum_less, sum_defined}
+use Rattle.viterbi.proofs.Steps.{sum_less, sum_defined}
 use Rattle.viterbi.proofs.Algorithm.{Found, Least, least_of_lem, end_below}
 use Rattle.viterbi.proofs.Growth.{exists, one_step}
 use Rattle.viterbi.proofs.Totals.{suffice}
@@ -45,11 +47,11 @@ module _ (K : Kind) where
 
   from_room : (n : ℕ) (o : Option K.Cost) (s : ℕ) → HasRoom K n o → WayHasRoom K n (from K o s)
   from_room n o s room c u e =
-      let w = split_then o (λ c. Some (c, s)) (c, u) e in
-      subst (Room K n) (ap (λ (y : K.Cost × ℕ). y.0) (some_same {A = K.Cost × ℕ} (w.0, s) (c, u) w.2)) (room w.0 w.1)
+      let w = came o (λ c. Some (c, s)) (c, u) e in
+      subst (Room K n) (ap (λ (y : K.Cost × ℕ). y.0) (same_Some {A = K.Cost × ℕ} (w.0, s) (c, u) w.2)) (room w.0 w.1)
 
   least_room : (k n : ℕ) (f : ℕ → Way K) → ((u : ℕ) → u < n → WayHasRoom K k (f u)) → WayHasRoom K k (least_of K n f)
-  least_room k zero f h = λ c s e. absurd (not_none (c, s) e)
+  least_room k zero f h = λ c s e. absurd (none-some (c, s) e)
   least_room k (suc n) f h = better_room k (least_of K n f) (f n) (least_room k n f (λ u l. h u (omega arith))) (h n (omega arith))
 
   module _ (k : ℕ) (row : List (Option Total)) where
@@ -84,13 +86,13 @@ module _ (K : Kind) where
     held s l = at (totals K M (x ∷ xs) s) refl (total_at row s) refl
       where
         at : (o : Option K.Cost) → totals K M (x ∷ xs) s ≡ o → (a : Option Total) → total_at row s ≡ a → (total_at row s ≡ carried_of K (totals K M (x ∷ xs) s)) × HasRoom K n (totals K M (x ∷ xs) s)
-        at None e None f = (f ∙ sym (ap (carried_of K) e), λ c i. absurd (not_none c (sym e ∙ i)))
+        at None e None f = (f ∙ sym (ap (carried_of K) e), λ c i. absurd (none-some c (sym e ∙ i)))
         at None e (Some w) f =
             let h = exists K M (x ∷ xs) s (stands.only s w l f) in
-            absurd (not_none h.1 (sym e ∙ (((suffice K M).stand (x ∷ xs) s h.1).1 (h.0, h.2)).1))
+            absurd (none-some h.1 (sym e ∙ (((suffice K M).stand (x ∷ xs) s h.1).1 (h.0, h.2)).1))
         at (Some c) e a f =
             let h = ((suffice K M).stand (x ∷ xs) s c).0 (l, e) in
-            (stands.reached s h.0 c h.1 ∙ sym (ap (carried_of K) e), λ d i. subst (Room K n) (some_same c d (sym e ∙ i)) (room_of s h.0 c h.1))
+            (stands.reached s h.0 c h.1 ∙ sym (ap (carried_of K) e), λ d i. subst (Room K n) (same_Some c d (sym e ∙ i)) (room_of s h.0 c h.1))
 
   module _ (M : Meaning) (x : Reading) (xs : Log) (row : List (Option Total)) (k : ℕ) (ready : Ready K M k x xs row) where
     abbrev costs : ℕ → Option K.Cost
@@ -115,7 +117,7 @@ module _ (K : Kind) where
 
       steps : (s : ℕ) (q : List ℕ) (e f : K.Cost) → CheapestTo K M (x ∷ xs) s q e → extended K M e s t r ≡ Some f → Steps s f
       steps s q e f h i =
-          let w = split_then (sum K e (M.passage s t ∷ [])) (λ d. sum K d (M.reading t r ∷ [])) f (sym (halves e s) ∙ i) in
+          let w = came (sum K e (M.passage s t ∷ [])) (λ d. sum K d (M.reading t r ∷ [])) f (sym (halves e s) ∙ i) in
           let o = ((suffice K M).stand (x ∷ xs) s e).1 (q, h) in
           record { between = w.0; way = ap (λ o. from K (option_and_then (λ c. sum K c (M.passage s t ∷ [])) o) s) o.1 ∙ ap (λ o. from K o s) w.1; reads = w.2 }
 
@@ -134,9 +136,9 @@ module _ (K : Kind) where
         module _ (d : K.Cost) (reads : sum K a.what.0 (M.reading t r ∷ []) ≡ Some d) where
           enters : EntersBy K M (x ∷ xs) r t (Some (best (K.carried d) a.what.1))
           enters =
-              let y = split_then (option_and_then (λ c. sum K c (M.passage s t ∷ [])) (costs s)) (λ c. Some (c, s)) a.what a.reads in
-              let z = split_then (costs s) (λ c. sum K c (M.passage s t ∷ [])) y.0 y.1 in
-              let is : (y.0, s) ≡ a.what = some_same {A = K.Cost × ℕ} (y.0, s) a.what y.2 in
+              let y = came (option_and_then (λ c. sum K c (M.passage s t ∷ [])) (costs s)) (λ c. Some (c, s)) a.what a.reads in
+              let z = came (costs s) (λ c. sum K c (M.passage s t ∷ [])) y.0 y.1 in
+              let is : (y.0, s) ≡ a.what = same_Some {A = K.Cost × ℕ} (y.0, s) a.what y.2 in
               let h = ((suffice K M).stand (x ∷ xs) s z.0).0 (a.inside, z.1) in
               let chosen : Chosen K M (x ∷ xs) r t s h.0 z.0 d = record {
                 cheapest = h.1;
@@ -151,21 +153,21 @@ module _ (K : Kind) where
               at : (u : ℕ) (f : K.Cost) (l : Steps u f) → K.Less a.what.0 l.between ⊎ ((a.what.0 ≡ l.between) × (s ≤ u)) → K.Less d f ⊎ ((d ≡ f) × (s ≤ u))
               at u f l (inl h) =
                   let e = sum_less K (M.reading t r ∷ []) a.what.0 l.between f h l.reads in
-                  inl (subst (λ z. K.Less z f) (some_same e.0 d (sym e.1 ∙ reads)) e.2)
-              at u f l (inr h) = inr (some_same d f (sym reads ∙ (ap (λ z. sum K z (M.reading t r ∷ [])) h.0 ∙ l.reads)), h.1)
+                  inl (subst (λ z. K.Less z f) (same_Some e.0 d (sym e.1 ∙ reads)) e.2)
+              at u f l (inr h) = inr (same_Some d f (sym reads ∙ (ap (λ z. sum K z (M.reading t r ∷ [])) h.0 ∙ l.reads)), h.1)
 
         barred : sum K a.what.0 (M.reading t r ∷ []) ≡ None → Reachable K M (x ∷ xs ++ r ∷ []) t → ⊥
         barred e h =
             let k = comes h in
             let f = sum_defined K (M.reading t r ∷ []) a.what.0 k.3.between k.1 k.3.reads in
-            not_none f.0 (sym e ∙ f.1)
+            none-some f.0 (sym e ∙ f.1)
 
         found : (o : Option K.Cost) → sum K a.what.0 (M.reading t r ∷ []) ≡ o → EntersBy K M (x ∷ xs) r t (carried_way K (from K o a.what.1))
         found None e = barred e
         found (Some d) e = enters d e
 
       none : ((u : ℕ) → u < M.modes → ways u ≡ None) → Reachable K M (x ∷ xs ++ r ∷ []) t → ⊥
-      none n h = let k = comes h in not_none (k.3.between, k.0) (sym (n k.0 k.2) ∙ k.3.way)
+      none n h = let k = comes h in none-some (k.3.between, k.0) (sym (n k.0 k.2) ∙ k.3.way)
 
       looked : (w : Way K) → Least K M.modes ways w → EntersBy K M (x ∷ xs) r t (carried_way K (and K w (M.reading t r)))
       looked w (inl n) = subst (λ w. EntersBy K M (x ∷ xs) r t (carried_way K (and K w (M.reading t r)))) (sym n.0) (none n.1)
@@ -186,10 +188,10 @@ module _ (K : Kind) where
     end_of s q d h = ap (λ o. from K o s) (((suffice K M).stand (x ∷ xs) s d).1 (q, h)).1
 
     end_at : (w : Way K) → Least K M.modes ends w → EndsAt K M (x ∷ xs) (carried_way K w)
-    end_at w (inl n) = subst (λ w. EndsAt K M (x ∷ xs) (carried_way K w)) (sym n.0) (λ t h. let e = exists K M (x ∷ xs) t h in not_none (e.1, t) (sym (n.1 t (end_below K M (x ∷ xs) e.0 e.1 t e.2.is_open e.2.ends)) ∙ end_of t e.0 e.1 e.2))
+    end_at w (inl n) = subst (λ w. EndsAt K M (x ∷ xs) (carried_way K w)) (sym n.0) (λ t h. let e = exists K M (x ∷ xs) t h in none-some (e.1, t) (sym (n.1 t (end_below K M (x ∷ xs) e.0 e.1 t e.2.is_open e.2.ends)) ∙ end_of t e.0 e.1 e.2))
     end_at w (inr a) =
-        let y = split_then (totals K M (x ∷ xs) a.place) (λ c. Some (c, a.place)) a.what a.reads in
-        let is : (y.0, a.place) ≡ a.what = some_same {A = K.Cost × ℕ} (y.0, a.place) a.what y.2 in
+        let y = came (totals K M (x ∷ xs) a.place) (λ c. Some (c, a.place)) a.what a.reads in
+        let is : (y.0, a.place) ≡ a.what = same_Some {A = K.Cost × ℕ} (y.0, a.place) a.what y.2 in
         let h = ((suffice K M).stand (x ∷ xs) a.place y.0).0 (a.inside, y.1) in
         let c = ap (λ (y : K.Cost × ℕ). y.0) is in
         let g : CheapestTo K M (x ∷ xs) a.place h.0 a.what.0 = subst (CheapestTo K M (x ∷ xs) a.place h.0) c h.1 in

@@ -1,11 +1,11 @@
 -- A row that is written mode by mode.
 use Rattle.std.proofs.Common.{◌≡◌, ℕ, ◌+◌, ◌<◌, Bool, true, false, ◌||◌, ◌⊎◌, ◌↔◌, List, [], ◌∷◌, ◌++◌, length, get_or, set, is_some, Some, None, MatchBool, Option, sym, refl, ap, ◌∙◌, subst, inl, inr, add-one, arith, option_and_then}
 use Rattle.std.proofs.lemmas.List.{get_or-set_same, get_or-set_other}
+use Rattle.std.proofs.lemmas.Option.{none-some, same_Some}
 use Rattle.cost.specs.declared.charge.Total.{Total}
 use Rattle.cost.specs.Kind.{Kind, carried_of}
 use Rattle.model.specs.Meaning.{Meaning}
 use Rattle.viterbi.specs.Paths.{Reading, Log, cost, Reachable, CheapestTo, Chosen}
-use Rattle.viterbi.proofs.Steps.{not_none, some_same}
 use Rattle.viterbi.proofs.Algorithm.{in_front, end_below}
 use Rattle.viterbi.proofs.Cheapest.{unique}
 use Rattle.viterbi.proofs.Growth.{exists, one_step, survivor_is}
@@ -76,7 +76,7 @@ module _ (K : Kind) (M : Meaning) (x : Reading) (xs : Log) (r : Reading) (old ro
 
   only : (t : ℕ) (w : Total) → t < M.modes → total_at row t ≡ Some w → Reachable K M long t
   only t w l e = elim (mode t l) [
-    | inl n ↦ absurd (not_none w (sym n.0 ∙ e))
+    | inl n ↦ absurd (none-some w (sym n.0 ∙ e))
     | inr m ↦ reachable t _ _ (goes_to t m.0 m.1 m.2 m.3 m.4)
   ]
 
@@ -87,14 +87,14 @@ module _ (K : Kind) (M : Meaning) (x : Reading) (xs : Log) (r : Reading) (old ro
   one_choice t s u l h k =
       let e = ((suffice K M).chosen x xs r t s h.2 l).1 (h.0, h.1, h.3) in
       let f = ((suffice K M).chosen x xs r t u k.2 l).1 (k.0, k.1, k.3) in
-      ap (λ (y : K.Cost × ℕ). y.1) (some_same {A = K.Cost × ℕ} (h.2, s) (k.2, u) (sym e ∙ f))
+      ap (λ (y : K.Cost × ℕ). y.1) (same_Some {A = K.Cost × ℕ} (h.2, s) (k.2, u) (sym e ∙ f))
 
   chosen : (t s : ℕ) → t < M.modes → (from_at from t ≡ Some s) ↔ Choice t s
   chosen t s l = (λ e. to e (mode t l), λ h. back h (mode t l))
     where
       to : from_at from t ≡ Some s → Mode t → Choice t s
-      to e (inl n) = absurd (not_none s (sym n.1 ∙ e))
-      to e (inr m) = subst (Choice t) (some_same m.0 s (sym m.6 ∙ e)) (m.1, m.2, m.3, m.4)
+      to e (inl n) = absurd (none-some s (sym n.1 ∙ e))
+      to e (inr m) = subst (Choice t) (same_Some m.0 s (sym m.6 ∙ e)) (m.1, m.2, m.3, m.4)
 
       back : Choice t s → Mode t → from_at from t ≡ Some s
       back h (inl n) = absurd (n.2 (reachable t _ _ (goes_to t s h.0 h.1 h.2 h.3)))
@@ -102,7 +102,7 @@ module _ (K : Kind) (M : Meaning) (x : Reading) (xs : Log) (r : Reading) (old ro
 
   tells : (b : Bool) → MatchBool b ((t : ℕ) × (t < M.modes) × (s : ℕ) × (from_at from t ≡ Some s)) ((t : ℕ) → t < M.modes → from_at from t ≡ None) → Tells K M long b
   tells true (t, l, s, e) = let h = (chosen t s l).0 e in (t, reachable t _ _ (goes_to t s h.0 h.1 h.2 h.3))
-  tells false h = λ t k. let l = end_below K M long k.0 k.1 t k.2 k.3 in elim (mode t l) [ inl n ↦ n.2 k | inr m ↦ not_none m.0 (sym (h t l) ∙ m.6) ]
+  tells false h = λ t k. let l = end_below K M long k.0 k.1 t k.2 k.3 in elim (mode t l) [ inl n ↦ n.2 k | inr m ↦ none-some m.0 (sym (h t l) ∙ m.6) ]
 
   pub next : Next K M (x ∷ xs) r row from any
   next = record { stands = record { reached = reached; only = only }; chosen = chosen; tells = tells any f.tells }
@@ -117,7 +117,7 @@ module _ (K : Kind) (M : Meaning) (r : Reading) (row₀ row : List (Option Total
       at : (o : Option K.Cost) → cost K M (r ∷ []) (t ∷ []) ≡ o → total_at row t ≡ carried_of K (cost K M (r ∷ []) (t ∷ [])) → from_at from t ≡ option_and_then (λ _. Some t) (total_at row t) → Start t
       at None e w s =
           let n : total_at row t ≡ None = w ∙ ap (carried_of K) e in
-          inl (n, s ∙ ap (λ o. option_and_then (λ _. Some t) o) n, λ h. let k = exists K M (r ∷ []) t h in not_none (k.1, k.0) (sym (ap (λ o. option_and_then (λ d. Some (d, t ∷ [])) o) e) ∙ ((survivor_is K M (r ∷ []) t k.0 k.1).1 k.2).1))
+          inl (n, s ∙ ap (λ o. option_and_then (λ _. Some t) o) n, λ h. let k = exists K M (r ∷ []) t h in none-some (k.1, k.0) (sym (ap (λ o. option_and_then (λ d. Some (d, t ∷ [])) o) e) ∙ ((survivor_is K M (r ∷ []) t k.0 k.1).1 k.2).1))
       at (Some c) e w s =
           let n : total_at row t ≡ Some (K.carried c) = w ∙ ap (carried_of K) e in
           inr (c, (survivor_is K M (r ∷ []) t (t ∷ []) c).0 (l, ap (λ o. option_and_then (λ d. Some (d, t ∷ [])) o) e), n, s ∙ ap (λ o. option_and_then (λ _. Some t) o) n)
@@ -132,14 +132,14 @@ module _ (K : Kind) (M : Meaning) (r : Reading) (row₀ row : List (Option Total
   ]
 
   first_only : (t : ℕ) (w : Total) → t < M.modes → total_at row t ≡ Some w → Reachable K M (r ∷ []) t
-  first_only t w l e = elim (start t l) [ inl n ↦ absurd (not_none w (sym n.0 ∙ e)) | inr m ↦ starts t m.0 m.1 ]
+  first_only t w l e = elim (start t l) [ inl n ↦ absurd (none-some w (sym n.0 ∙ e)) | inr m ↦ starts t m.0 m.1 ]
 
   first_chosen : (t s : ℕ) → t < M.modes → (from_at from t ≡ Some s) ↔ ((s ≡ t) × Reachable K M (r ∷ []) t)
   first_chosen t s l = (λ e. to e (start t l), λ h. back h (start t l))
     where
       to : from_at from t ≡ Some s → Start t → (s ≡ t) × Reachable K M (r ∷ []) t
-      to e (inl n) = absurd (not_none s (sym n.1 ∙ e))
-      to e (inr m) = (some_same s t (sym e ∙ m.3), starts t m.0 m.1)
+      to e (inl n) = absurd (none-some s (sym n.1 ∙ e))
+      to e (inr m) = (same_Some s t (sym e ∙ m.3), starts t m.0 m.1)
 
       back : (s ≡ t) × Reachable K M (r ∷ []) t → Start t → from_at from t ≡ Some s
       back h (inl n) = absurd (n.2 h.1)
@@ -147,7 +147,7 @@ module _ (K : Kind) (M : Meaning) (r : Reading) (row₀ row : List (Option Total
 
   first_tells : (b : Bool) → MatchBool b ((t : ℕ) × (t < M.modes) × (s : ℕ) × (from_at from t ≡ Some s)) ((t : ℕ) → t < M.modes → from_at from t ≡ None) → Tells K M (r ∷ []) b
   first_tells true (t, l, s, e) = (t, ((first_chosen t s l).0 e).1)
-  first_tells false h = λ t k. let l = end_below K M (r ∷ []) k.0 k.1 t k.2 k.3 in not_none t (sym (h t l) ∙ (first_chosen t t l).1 (refl, k))
+  first_tells false h = λ t k. let l = end_below K M (r ∷ []) k.0 k.1 t k.2 k.3 in none-some t (sym (h t l) ∙ (first_chosen t t l).1 (refl, k))
 
   pub first : First K M r row from any
   first = record { stands = record { reached = first_reached; only = first_only }; chosen = first_chosen; tells = first_tells any f.tells }
@@ -177,8 +177,8 @@ module _ (K : Kind) (M : Meaning) (n : ℕ) (old row₀ row : List (Option Total
   next_backed t s l e = let k = f.each t l in k.backed s (sym k.from ∙ e)
 
 marked : (w : Option Total) (t s : ℕ) → option_and_then (λ _. Some t) w ≡ Some s → s ≡ t
-marked None t s e = absurd (not_none s e)
-marked (Some w) t s e = sym (some_same t s e)
+marked None t s e = absurd (none-some s e)
+marked (Some w) t s e = sym (same_Some t s e)
 
 module _ (K : Kind) (M : Meaning) (n : ℕ) (row₀ row : List (Option Total)) (r : Reading) (from₀ from : List (Option ℕ)) (any : Bool) (f : Filled (BegunBy K M r) n row₀ row from₀ from any) where
   pub first_marked : Marked n row from any
@@ -191,5 +191,5 @@ module _ (K : Kind) (M : Meaning) (n : ℕ) (row₀ row : List (Option Total)) (
 pub one_backed : (n s : ℕ) (row : List (Option Total)) (b r : Option Best) (a : Option Total) → s < n → (is_some a ≡ true → is_some (total_at row s) ≡ true) → OneOf b a s r → Backed n row b → Backed n row r
 one_backed n s row b r a l some (inl e) back u i = back u (sym (ap best_from e) ∙ i)
 one_backed n s row b r a l some (inr e) back u i =
-    let k = some_same s u (sym e.1 ∙ i) in
+    let k = same_Some s u (sym e.1 ∙ i) in
     (subst (λ s. s < n) k l, subst (λ s. is_some (total_at row s) ≡ true) k (some e.0))

@@ -4,8 +4,8 @@ use Rattle.cost.specs.declared.charge.Charge.{Charge}
 use Rattle.cost.specs.declared.charge.Total.{Total}
 use Rattle.cost.specs.Kind.{Kind, sum, Carries, carried_of, Charged, Compared}
 use Rattle.std.proofs.lemmas.List.{length_push}
+use Rattle.cost.specs.Sums.{came}
 use Rattle.cost.proofs.Arising.{added_append, carried_from}
-use Rattle.viterbi.proofs.Steps.{split_then}
 use Rattle.viterbi.specs.Algorithm.{chosen_of, better}
 use Rattle.trellis.specs.declared.best.Best.{Best}
 use Rattle.trellis.specs.Carried.{Room, Way, from, and, best, carried_way, HasRoom, Through, Better, Arrived}
@@ -17,7 +17,7 @@ module _ (K : Kind) where
   -- a cost with one more charge has room for one less
   pub room_next : (n : ℕ) (o : Option K.Cost) (h : Charge) → HasRoom K (n + 1) o → HasRoom K n (option_and_then (λ c. sum K c (h ∷ [])) o)
   room_next n o h room d e =
-      let w = split_then o (λ c. sum K c (h ∷ [])) d e in
+      let w = came o (λ c. sum K c (h ∷ [])) d e in
       let m = room w.0 w.1 in
       record {
         charges = m.charges ++ h ∷ [];

@@ -1,14 +1,16 @@
 -- Viterbi's algorithm finds the cheapest paths; so they exist, and grow by one step.
-use Rattle.std.proofs.Common.{◌≡◌, ℕ, zero, suc, ◌<◌, ◌≤◌, ◌⊎◌, List, [], ◌∷◌, ◌++◌, length, Some, None, Option, sym, refl, ap, ◌∙◌, subst, inl, inr, arith, option_and_then}
-use Rattle.std.specs.List.{AllByRecursion}
+use Rattle.std.proofs.Common.{◌≡◌, ℕ, zero, suc, ◌<◌, ◌≤◌, ◌⊎◌, List, [], ◌∷◌, ◌++◌, length, All, Some, None, Option, sym, refl, ap, ◌∙◌, subst, inl, inr, arith, option_and_then}
 use Rattle.std.proofs.lemmas.List.{length_push, append_assoc, append-nil, nil_from_length}
+use Rattle.std.proofs.lemmas.List.Elements.{All-nil, All-push}
+use Rattle.std.proofs.lemmas.Option.{none-some, same_Some}
+use Rattle.cost.specs.Sums.{came}
 use Rattle.cost.specs.Kind.{Kind}
 use Rattle.model.specs.Meaning.{Meaning}
 use Rattle.viterbi.specs.Lists.{EndsIn}
 use Rattle.viterbi.specs.Paths.{cost, extended, Open, CheapestTo, Chosen, Reading, Log}
 use Rattle.viterbi.specs.Algorithm.{Kept, chosen_of, better, least_of, go_on, advance, advanced, first, survivors}
 use Rattle.viterbi.proofs.Ends.{compare, all_split}
-use Rattle.viterbi.proofs.Steps.{not_none, some_same, sum_defined, split_then, split}
+use Rattle.viterbi.proofs.Steps.{sum_defined, split}
 use Rattle.viterbi.proofs.Cheapest.{unique, chosen_cheapest}
 
 module _ (K : Kind) {A : Type 0} where
@@ -33,7 +35,7 @@ none_to f n h e u l = elim (in_front u n l) [ inl k ↦ h u k | inr i ↦ ap f i
 
 module _ (K : Kind) {A : Type 0} (f : ℕ → Option (K.Cost × A)) where
   none_at : (u : ℕ) (y : K.Cost × A) → f u ≡ None → f u ≡ Some y → ⊥
-  none_at u y a b = not_none y (sym a ∙ b)
+  none_at u y a b = none-some y (sym a ∙ b)
 
   module _ (n : ℕ) where
     -- the place m is the first of least cost if it is so against those below n and against n
@@ -45,7 +47,7 @@ module _ (K : Kind) {A : Type 0} (f : ℕ → Option (K.Cost × A)) where
         at u z i (inr k) = subst (λ w. K.Less x.0 z.0 ⊎ ((x.0 ≡ z.0) × (m ≤ w))) (sym k) (here z (ap f (sym k) ∙ i))
 
     same_at : (u : ℕ) (y z : K.Cost × A) → f u ≡ Some y → f u ≡ Some z → y.0 ≡ z.0
-    same_at u y z a b = ap (λ (w : K.Cost × A). w.0) (some_same y z (sym a ∙ b))
+    same_at u y z a b = ap (λ (w : K.Cost × A). w.0) (same_Some y z (sym a ∙ b))
 
     found_new : ((u : ℕ) → u < n → f u ≡ None) → (y : K.Cost × A) → f n ≡ Some y → Found K (suc n) f (Some y)
     found_new h y e = grow n y (omega arith) e (λ u z l i. absurd (none_at u z (h u l) i)) (λ z i. inr (same_at n y z e i, omega arith))
@@ -81,7 +83,7 @@ module _ (K : Kind) (M : Meaning) where
   Right xs v = (s : ℕ) → s < M.modes → RightAt xs v s
 
   pub end_below : (xs : Log) (q : List ℕ) (c : K.Cost) (s : ℕ) → Open K M xs q c → EndsIn q s → s < M.modes
-  end_below xs q c s o e = (all_split (λ t. t < M.modes) e.0 s (subst (AllByRecursion (λ t. t < M.modes)) e.1 o.modes)).1
+  end_below xs q c s o e = (all_split (λ t. t < M.modes) e.0 s (subst (All (λ t. t < M.modes)) e.1 o.modes)).1
 
   -- the survivor of a mode in which an open path ends
   pub kept : (xs : Log) (v : ℕ → Option (Kept K)) → Right xs v → (s : ℕ) (q : List ℕ) (c : K.Cost) → Open K M xs q c → EndsIn q s → (p : List ℕ) × (d : K.Cost) × (v s ≡ Some (d, p)) × CheapestTo K M xs s p d
@@ -112,21 +114,21 @@ module _ (K : Kind) (M : Meaning) where
     made a = at (g a.place a.inside)
       where
         w : (y : Kept K) × (v a.place ≡ Some y) × (go_on K M a.place t r y ≡ Some a.what)
-        w = split_then (v a.place) (go_on K M a.place t r) a.what a.reads
+        w = came (v a.place) (go_on K M a.place t r) a.what a.reads
 
         y : Kept K
         y = w.0
 
         z : (d : K.Cost) × (extended K M y.0 a.place t r ≡ Some d) × (◌≡◌ {A = Option (Kept K)} (Some (d, y.1 ++ t ∷ [])) (Some a.what))
-        z = split_then (extended K M y.0 a.place t r) (λ (d : K.Cost). Some (d, y.1 ++ t ∷ [])) a.what w.2
+        z = came (extended K M y.0 a.place t r) (λ (d : K.Cost). Some (d, y.1 ++ t ∷ [])) a.what w.2
 
         d_is : a.what.0 ≡ z.0
-        d_is = sym (ap (λ (k : Kept K). k.0) (some_same (z.0, y.1 ++ t ∷ []) a.what z.2))
+        d_is = sym (ap (λ (k : Kept K). k.0) (same_Some (z.0, y.1 ++ t ∷ []) a.what z.2))
 
         at : RightAt (x ∷ xs) v a.place → Made
-        at (inl h) = absurd (not_none y (sym h.0 ∙ w.1))
+        at (inl h) = absurd (none-some y (sym h.0 ∙ w.1))
         at (inr k) =
-            let same : (k.1, k.0) ≡ y = some_same {A = Kept K} (k.1, k.0) y (sym k.2 ∙ w.1) in (
+            let same : (k.1, k.0) ≡ y = same_Some {A = Kept K} (k.1, k.0) y (sym k.2 ∙ w.1) in (
               a.place,
               y.1,
               y.0,
@@ -150,7 +152,7 @@ module _ (K : Kind) (M : Meaning) where
               let w = split K M x xs r q t c o e in
               let k = has (x ∷ xs) v g w.from w.path w.before w.is_open w.ends in
               let f = sum_defined K (M.passage w.from t ∷ M.reading t r ∷ []) k.1 w.before c w.step in
-              not_none (f.0, k.0 ++ t ∷ []) (sym (h.1 w.from (end_below (x ∷ xs) w.path w.before w.from w.is_open w.ends)) ∙ among w.from k.0 k.1 f.0 k.2 f.1),
+              none-some (f.0, k.0 ++ t ∷ []) (sym (h.1 w.from (end_below (x ∷ xs) w.path w.before w.from w.is_open w.ends)) ∙ among w.from k.0 k.1 f.0 k.2 f.1),
         )
         at (inr a) = inr (made a)
 
@@ -171,13 +173,13 @@ module _ (K : Kind) (M : Meaning) where
   first_right r t below = at (cost K M (r ∷ []) (t ∷ [])) refl
     where
       at : (o : Option K.Cost) → cost K M (r ∷ []) (t ∷ []) ≡ o → RightAt (r ∷ []) (first K M r) t
-      at None e = inl (rw e, λ q c o i. not_none c (sym e ∙ subst (λ z. cost K M (r ∷ []) z ≡ Some c) (sym (single r q c t o i)) o.costs))
+      at None e = inl (rw e, λ q c o i. none-some c (sym e ∙ subst (λ z. cost K M (r ∷ []) z ≡ Some c) (sym (single r q c t o i)) o.costs))
       at (Some d) e = inr (
         t ∷ [],
         d,
         rw e,
         record {
-          is_open = record { modes = (below, tt); one_each = refl; costs = e };
+          is_open = record { modes = All-push (λ z. z < M.modes) [] t (All-nil (λ z. z < M.modes)) below; one_each = refl; costs = e };
           ends = ([], refl);
           best = λ q c o i. inl (single r q c t o i);
         },

@@ -1,15 +1,16 @@
 -- The cheapest path to a mode is one; what the chosen one goes on to is cheapest.
 use Rattle.std.proofs.Common.{◌≡◌, ℕ, ◌<◌, ◌≤◌, ◌⊎◌, List, [], ◌∷◌, ◌++◌, length, Some, sym, refl, ap, ◌∙◌, subst, inl, inr, arith}
+use Rattle.std.proofs.lemmas.Option.{same_Some}
 use Rattle.cost.specs.Kind.{Kind}
 use Rattle.model.specs.Meaning.{Meaning}
 use Rattle.viterbi.specs.Lists.{EndsIn}
 use Rattle.viterbi.specs.Paths.{extended, LowerAtLast, Open, CheapestTo, Chosen, Reading, Log}
 use Rattle.viterbi.proofs.Ends.{compare, lower_asym, lower_push, lower_ends}
-use Rattle.viterbi.proofs.Steps.{some_same, sum_less, open_push, Split, split}
+use Rattle.viterbi.proofs.Steps.{sum_less, open_push, Split, split}
 
 module _ (K : Kind) (M : Meaning) where
   same_cost : (xs : Log) (p : List ℕ) (c d : K.Cost) → Open K M xs p c → Open K M xs p d → c ≡ d
-  same_cost xs p c d a b = some_same c d (sym a.costs ∙ b.costs)
+  same_cost xs p c d a b = same_Some c d (sym a.costs ∙ b.costs)
 
   pub less_not : (a b : K.Cost) → K.Less a b → a ≡ b → ⊥
   less_not a b h e = K.irreflexive b (subst (λ x. K.Less x b) e h)

@@ -2,7 +2,6 @@
 use Rattle.std.proofs.Common.{◌≡◌, ℕ, zero, suc, ◌<◌, ◌≤◌, Bool, true, false, cond, leb, ◌⊎◌, List, [], ◌∷◌, ◌++◌, length, get_or, Some, None, Option, sym, refl, ap, ◌∙◌, subst, inl, inr, arith}
 use borrow.Author.Tests.{clash}
 use Rattle.std.proofs.lemmas.Bool.{eqb-true, eq-eqb, leb-true, le-leb, or_cases, or_left, or_right, cond-true, cond_both}
-use Rattle.std.proofs.ByRecursion.{All-get_or}
 use Rattle.cost.specs.Kind.{Kind}
 use Rattle.model.specs.Meaning.{Meaning}
 use Rattle.viterbi.specs.Lists.{In, Distinct, Counted}
@@ -178,7 +177,7 @@ module _ (K : Kind) (M : Meaning) where
         cells_has (length (decided K M xs)) (survivors K M xs) (length xs) i s (
           omega (arith, a.undecided, ap length e),
           c.inside,
-          subst (λ z. z < M.modes) c.lies (All-get_or (λ z. z < M.modes) c.path i 0 (omega (arith, o.one_each, c.inside)) o.modes),
+          subst (λ z. z < M.modes) c.lies (o.modes i 0 (omega (arith, o.one_each, c.inside))),
           any_to M.modes (survivors K M xs) i s c.survivor.0 (c.survivor.1, c.path) v.0 v.1 c.lies,
         )
 

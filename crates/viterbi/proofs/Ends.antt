@@ -1,7 +1,6 @@
 -- The ends of lists, and the tie rule.
-use Rattle.std.proofs.Common.{◌≡◌, ℕ, ◌+◌, ◌<◌, ◌⊎◌, List, [], ◌∷◌, ◌++◌, length, get_or, sym, refl, ap, ◌∙◌, inl, inr, arith}
+use Rattle.std.proofs.Common.{◌≡◌, ℕ, ◌+◌, ◌<◌, ◌⊎◌, List, [], ◌∷◌, ◌++◌, length, All, get_or, sym, refl, ap, ◌∙◌, subst, inl, inr, arith}
 use native.Mathlib.Decide.{dec_lt}
-use Rattle.std.specs.List.{AllByRecursion}
 use Rattle.std.proofs.lemmas.List.{length_push, get_or_push, get_or_append_left}
 use Rattle.viterbi.specs.Lists.{EndsIn}
 use Rattle.viterbi.specs.Paths.{LowerAtLast}
@@ -18,9 +17,11 @@ pub last_push : (s : ℕ) (q : List ℕ) (t : ℕ) → last_of s (q ++ t ∷ [])
 last_push s [] t = refl
 last_push s (x ∷ q) t = last_push x q t
 
-pub all_split : (P : ℕ → Type 0) (q : List ℕ) (t : ℕ) → AllByRecursion P (q ++ t ∷ []) → AllByRecursion P q × P t
-all_split P [] t h = (tt, h.0)
-all_split P (x ∷ q) t h = let r = all_split P q t h.1 in ((h.0, r.0), r.1)
+pub all_split : (P : ℕ → Type 0) (q : List ℕ) (t : ℕ) → All P (q ++ t ∷ []) → All P q × P t
+all_split P q t h = (
+  λ k d l. subst P (get_or_append_left q (t ∷ []) d k l) (h k d (omega (arith, length_push q t))),
+  subst P (get_or_push q t t (length q) refl) (h (length q) t (omega (arith, length_push q t))),
+)
 
 pub compare : (i j : ℕ) → (i < j) ⊎ (i ≡ j) ⊎ (j < i)
 compare i j = elim (dec_lt i j) [ yes h ↦ inl h | no h ↦ elim (dec_lt j i) [ yes k ↦ inr (inr k) | no k ↦ inr (inl (omega arith)) ] ]

@@ -1,13 +1,13 @@
 -- The theorems: cheapest paths exist, grow by one step, and what is decided stays.
 use Rattle.std.proofs.Common.{◌≡◌, ℕ, ◌<◌, ◌≤◌, ◌⊎◌, ◌↔◌, List, [], ◌∷◌, ◌++◌, length, take, drop, Some, None, Option, sym, refl, ap, ◌∙◌, subst, inl, inr, arith}
 use Rattle.std.proofs.lemmas.List.{length_push, length-append, append_assoc, append-nil, nil_from_length, length-take, take-append-drop, same_from_push}
+use Rattle.std.proofs.lemmas.Option.{none-some, same_Some}
 use Rattle.cost.specs.Kind.{Kind}
 use Rattle.model.specs.Meaning.{Meaning}
 use Rattle.viterbi.specs.Lists.{EndsIn, Begins, Shared}
 use Rattle.viterbi.specs.Paths.{Open, Reachable, CheapestTo, Chosen, CheapestOf, Survivor, Decided, Reading, Log}
 use Rattle.viterbi.specs.Algorithm.{Kept, advance, survivors, cheapest, or_empty, meet_of, decided}
 use Rattle.viterbi.specs.Theorems.{Unique, Exist, Computed, OneStep, Beginnings, Final, Grows}
-use Rattle.viterbi.proofs.Steps.{not_none, some_same}
 use Rattle.viterbi.proofs.Cheapest.{less_not, unique, chosen_cheapest}
 use Rattle.viterbi.proofs.Algorithm as program
 use Rattle.viterbi.proofs.Algorithm.{Least, least_of_lem, Right, RightAt, end_below, kept_is, has, chooses, survivors_right}
@@ -22,12 +22,12 @@ module _ (K : Kind) (M : Meaning) where
   exists (x ∷ xs) t h = has K M (x ∷ xs) (survivors K M (x ∷ xs)) (survivors_right K M x xs) t h.0 h.1 h.2 h.3
 
   pub survivor_is : (xs : Log) (t : ℕ) (p : List ℕ) (c : K.Cost) → ((t < M.modes) × (survivors K M xs t ≡ Some (c, p))) ↔ CheapestTo K M xs t p c
-  survivor_is [] t p c = (λ h. absurd (not_none (c, p) h.1), λ h. absurd (not_empty p t h.ends h.is_open.one_each))
+  survivor_is [] t p c = (λ h. absurd (none-some (c, p) h.1), λ h. absurd (not_empty p t h.ends h.is_open.one_each))
   survivor_is (x ∷ xs) t p c = (λ h. at h.1 (survivors_right K M x xs t h.0), λ h. (end_below K M (x ∷ xs) p c t h.is_open h.ends, kept_is K M (x ∷ xs) (survivors K M (x ∷ xs)) (survivors_right K M x xs) t p c h))
     where
       at : survivors K M (x ∷ xs) t ≡ Some (c, p) → RightAt K M (x ∷ xs) (survivors K M (x ∷ xs)) t → CheapestTo K M (x ∷ xs) t p c
-      at e (inl h) = absurd (not_none (c, p) (sym h.0 ∙ e))
-      at e (inr h) = subst (λ (z : Kept K). CheapestTo K M (x ∷ xs) t z.1 z.0) (some_same {A = Kept K} (h.1, h.0) (c, p) (sym h.2 ∙ e)) h.3
+      at e (inl h) = absurd (none-some (c, p) (sym h.0 ∙ e))
+      at e (inr h) = subst (λ (z : Kept K). CheapestTo K M (x ∷ xs) t z.1 z.0) (same_Some {A = Kept K} (h.1, h.0) (c, p) (sym h.2 ∙ e)) h.3
 
   pub one_step : OneStep K M
   one_step x xs r t q d = (λ h. to h (chooses K M x xs r v g t (end_below K M (x ∷ xs ++ r ∷ []) q d t h.is_open h.ends)), λ h. subst (λ z. CheapestTo K M (x ∷ xs ++ r ∷ []) t z d) (sym h.3) (from h.0 h.1 h.2 d h.4))
@@ -104,21 +104,21 @@ module _ (K : Kind) (M : Meaning) where
       go (inl n) =
           let e = exists (x ∷ xs) t h in
           let k = (survivor_is (x ∷ xs) t e.0 e.1).1 e.2 in
-          absurd (not_none (e.1, e.0) (sym (n.1 t k.0) ∙ k.1))
+          absurd (none-some (e.1, e.0) (sym (n.1 t k.0) ∙ k.1))
       go (inr a) = (a.what.1, a.what.0, found_of x xs a)
 
   pub cheapest_is : (xs : Log) (p : List ℕ) (c : K.Cost) → (cheapest K M xs ≡ Some (c, p)) ↔ CheapestOf K M xs p c
-  cheapest_is [] p c = (λ e. let s = some_same {A = Kept K} (K.zero, []) (c, p) e in (ap (λ (z : Kept K). z.1) (sym s), ap (λ (z : Kept K). z.0) (sym s)), λ h i. Some (sym h.1 i, sym h.0 i))
+  cheapest_is [] p c = (λ e. let s = same_Some {A = Kept K} (K.zero, []) (c, p) e in (ap (λ (z : Kept K). z.1) (sym s), ap (λ (z : Kept K). z.0) (sym s)), λ h i. Some (sym h.1 i, sym h.0 i))
   cheapest_is (x ∷ xs) p c = (λ e. to e (least_of_lem K (survivors K M (x ∷ xs)) M.modes), λ h. from h (least_of_lem K (survivors K M (x ∷ xs)) M.modes))
     where
       to : cheapest K M (x ∷ xs) ≡ Some (c, p) → Least K M.modes (survivors K M (x ∷ xs)) (cheapest K M (x ∷ xs)) → CheapestOf K M (x ∷ xs) p c
-      to e (inl n) = absurd (not_none (c, p) (sym n.0 ∙ e))
-      to e (inr a) = subst (λ (z : Kept K). CheapestOf K M (x ∷ xs) z.1 z.0) (some_same a.what (c, p) (sym a.is ∙ e)) (found_of x xs a)
+      to e (inl n) = absurd (none-some (c, p) (sym n.0 ∙ e))
+      to e (inr a) = subst (λ (z : Kept K). CheapestOf K M (x ∷ xs) z.1 z.0) (same_Some a.what (c, p) (sym a.is ∙ e)) (found_of x xs a)
 
       from : CheapestOf K M (x ∷ xs) p c → Least K M.modes (survivors K M (x ∷ xs)) (cheapest K M (x ∷ xs)) → cheapest K M (x ∷ xs) ≡ Some (c, p)
       from h (inl n) =
           let k = (survivor_is (x ∷ xs) h.0 p c).1 h.1 in
-          absurd (not_none (c, p) (sym (n.1 h.0 k.0) ∙ k.1))
+          absurd (none-some (c, p) (sym (n.1 h.0 k.0) ∙ k.1))
       from h (inr a) =
           let u = unique_of (x ∷ xs) a.what.1 p a.what.0 c (found_of x xs a) h in
           a.is ∙ (λ i. Some (u.1 i, u.0 i))
@@ -152,7 +152,7 @@ module _ (K : Kind) (M : Meaning) where
       go o (inl n) =
           let e = exists (x ∷ xs) t h in
           let k = (survivor_is (x ∷ xs) t e.0 e.1).1 e.2 in
-          absurd (not_none (e.1, e.0) (sym (n.1 t k.0) ∙ k.1))
+          absurd (none-some (e.1, e.0) (sym (n.1 t k.0) ∙ k.1))
       go o (inr m) =
           let a = m.2 in
           let b = (survivor_is (x ∷ xs) a.place a.what.1 a.what.0).0 (a.inside, a.reads) in

@@ -2,10 +2,10 @@
 use Rattle.std.proofs.Common.{◌≡◌, ℕ, zero, suc, ◌<◌, ◌≤◌, eqb, ◌⊎◌, List, [], ◌∷◌, ◌++◌, length, Some, None, Option, sym, refl, ap, ◌∙◌, subst, inl, inr, arith}
 use Rattle.std.proofs.lemmas.Bool.{eqb-true, eqb-false, cond_both}
 use Rattle.std.proofs.lemmas.List.{length-append, append_assoc, append-nil, nil_from_length}
+use Rattle.std.proofs.lemmas.Option.{none-some, same_Some}
 use Rattle.cost.specs.Kind.{Kind}
 use Rattle.viterbi.specs.Lists.{Begins}
 use Rattle.viterbi.specs.Algorithm.{Kept, meet, meet_next, meet_of}
-use Rattle.viterbi.proofs.Steps.{not_none, some_same}
 use Rattle.viterbi.proofs.Algorithm.{in_front, none_to}
 
 pub begins_trans : (a b c : List ℕ) → Begins a b → Begins b c → Begins a c
@@ -69,7 +69,7 @@ Met K n f o = ((o ≡ None) × ((u : ℕ) → u < n → f u ≡ None)) ⊎ ((d :
 
 module _ (K : Kind) (f : ℕ → Option (Kept K)) where
   same_path : (u : ℕ) (y z : Kept K) → f u ≡ Some y → f u ≡ Some z → y.1 ≡ z.1
-  same_path u y z a b = ap (λ (w : Kept K). w.1) (some_same y z (sym a ∙ b))
+  same_path u y z a b = ap (λ (w : Kept K). w.1) (same_Some y z (sym a ∙ b))
 
   module _ (n : ℕ) where
     upto : (e : List ℕ) → ((u : ℕ) (y : Kept K) → u < n → f u ≡ Some y → Begins e y.1) → ((y : Kept K) → f n ≡ Some y → Begins e y.1) → (u : ℕ) (y : Kept K) → u < suc n → f u ≡ Some y → Begins e y.1
@@ -85,7 +85,7 @@ module _ (K : Kind) (f : ℕ → Option (Kept K)) where
         what = x;
         inside = omega arith;
         reads = e;
-        common = upto x.1 (λ u y l i. absurd (not_none y (sym (h.1 u l) ∙ i))) (λ y i. ([], same_path n y x i e ∙ sym (append-nil x.1)));
+        common = upto x.1 (λ u y l i. absurd (none-some y (sym (h.1 u l) ∙ i))) (λ y i. ([], same_path n y x i e ∙ sym (append-nil x.1)));
         longest = λ b k. k n x (omega arith) e;
       },
     ))
@@ -97,7 +97,7 @@ module _ (K : Kind) (f : ℕ → Option (Kept K)) where
         what = a.2.what;
         inside = omega (arith, a.2.inside);
         reads = a.2.reads;
-        common = upto a.0 a.2.common (λ y i. absurd (not_none y (sym e ∙ i)));
+        common = upto a.0 a.2.common (λ y i. absurd (none-some y (sym e ∙ i)));
         longest = λ b k. a.2.longest b (λ u y l. k u y (omega arith));
       },
     ))

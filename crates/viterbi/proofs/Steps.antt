@@ -1,7 +1,9 @@
 -- One reading more: how open paths and their costs grow at the end.
-use Rattle.std.proofs.Common.{◌≡◌, ℕ, suc, ◌<◌, List, [], ◌∷◌, ◌++◌, length, Some, None, Option, sym, refl, ap, ◌∙◌, subst, arith, option_and_then}
+use Rattle.std.proofs.Common.{◌≡◌, ℕ, suc, ◌<◌, List, [], ◌∷◌, ◌++◌, length, Some, None, sym, refl, ap, ◌∙◌, subst, arith, option_and_then}
 use Rattle.std.proofs.lemmas.List.{length_push}
-use Rattle.std.proofs.ByRecursion.{All-push}
+use Rattle.std.proofs.lemmas.List.Elements.{All-push}
+use Rattle.std.proofs.lemmas.Option.{none-some, same_Some}
+use Rattle.cost.specs.Sums.{came}
 use Rattle.cost.specs.declared.charge.Charge.{Charge}
 use Rattle.cost.specs.Kind.{Kind, sum}
 use Rattle.model.specs.Meaning.{Meaning}
@@ -16,19 +18,13 @@ later_push M s [] (u ∷ us) r t n = absurd (omega arith)
 later_push M s (x ∷ xs) [] r t n = absurd (omega arith)
 later_push M s (x ∷ xs) (u ∷ us) r t n = ap (λ (l : List Charge). M.passage s u ∷ M.reading u x ∷ l) (later_push M u xs us r t (omega arith))
 
-pub not_none : {A : Type 0} (a : A) → ◌≡◌ {A = Option A} None (Some a) → ⊥
-not_none a e = let z : ◌≡◌ {A = ℕ} 0 1 = cc in omega arith
-
-pub some_same : {A : Type 0} (a b : A) → ◌≡◌ {A = Option A} (Some a) (Some b) → a ≡ b
-some_same a b e = cc
-
 module _ (K : Kind) where
   -- from a lower cost the same charges come to a lower cost
   pub sum_less : (hs : List Charge) (b c d : K.Cost) → K.Less b c → sum K c hs ≡ Some d → (e : K.Cost) × (sum K b hs ≡ Some e) × K.Less e d
-  sum_less [] b c d l e = (b, refl, subst (K.Less b) (some_same c d e) l)
+  sum_less [] b c d l e = (b, refl, subst (K.Less b) (same_Some c d e) l)
   sum_less (h ∷ hs) b c d l e =
       (elim (K.cost_of h) as (λ o. option_and_then (λ x. sum K (K.add c x) hs) o ≡ Some d → (f : K.Cost) × (option_and_then (λ x. sum K (K.add b x) hs) o ≡ Some f) × K.Less f d) [
-        | None ↦ λ i. absurd (not_none d i)
+        | None ↦ λ i. absurd (none-some d i)
         | Some x ↦ λ i. sum_less hs (K.add b x) (K.add c x) d (K.add_less b c x l) i
       ]) e
 
@@ -37,13 +33,9 @@ module _ (K : Kind) where
   sum_defined [] b c d e = (b, refl)
   sum_defined (h ∷ hs) b c d e =
       (elim (K.cost_of h) as (λ o. option_and_then (λ x. sum K (K.add c x) hs) o ≡ Some d → (f : K.Cost) × (option_and_then (λ x. sum K (K.add b x) hs) o ≡ Some f)) [
-        | None ↦ λ i. absurd (not_none d i)
+        | None ↦ λ i. absurd (none-some d i)
         | Some x ↦ λ i. sum_defined hs (K.add b x) (K.add c x) d i
       ]) e
-
-pub split_then : {A B : Type 0} (o : Option A) (f : A → Option B) (d : B) → option_and_then f o ≡ Some d → (c : A) × (o ≡ Some c) × (f c ≡ Some d)
-split_then None f d e = absurd (not_none d e)
-split_then (Some c) f d e = (c, refl, e)
 
 module _ (K : Kind) (M : Meaning) where
   pub cost_push : (x : Reading) (u : ℕ) (xs : Log) (us : List ℕ) (r : Reading) (t : ℕ) → length us ≡ length xs → cost K M (x ∷ xs ++ r ∷ []) (u ∷ us ++ t ∷ []) ≡ option_and_then (λ c. extended K M c (last_of u us) t r) (cost K M (x ∷ xs) (u ∷ us))
@@ -77,7 +69,7 @@ module _ (K : Kind) (M : Meaning) where
   split_at x xs r (u ∷ us) t d o =
       let n : length us ≡ length xs = omega (arith, o.one_each, length_push us t, length_push xs r) in
       let m = all_split (λ t. t < M.modes) (u ∷ us) t o.modes in
-      let w = split_then (cost K M (x ∷ xs) (u ∷ us)) (λ c. extended K M c (last_of u us) t r) d (sym (cost_push x u xs us r t n) ∙ o.costs) in
+      let w = came (cost K M (x ∷ xs) (u ∷ us)) (λ c. extended K M c (last_of u us) t r) d (sym (cost_push x u xs us r t n) ∙ o.costs) in
       let l = unsnoc u us in
       let e : EndsIn (u ∷ us) l.1 = (l.0, l.2) in
       record {

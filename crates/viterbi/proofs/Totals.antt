@@ -1,12 +1,13 @@
 -- The totals alone suffice to choose and to go on.
 use Rattle.std.proofs.Common.{◌≡◌, ℕ, ◌<◌, ◌≤◌, ◌⊎◌, List, [], ◌∷◌, ◌++◌, Some, None, Option, sym, refl, ap, ◌∙◌, subst, inl, inr, option_and_then}
 use Rattle.std.proofs.lemmas.List.{same_from_push}
+use Rattle.std.proofs.lemmas.Option.{none-some, same_Some}
+use Rattle.cost.specs.Sums.{came}
 use Rattle.cost.specs.Kind.{Kind}
 use Rattle.model.specs.Meaning.{Meaning}
 use Rattle.viterbi.specs.Paths.{extended, CheapestTo, Chosen, Reading, Log}
 use Rattle.viterbi.specs.Algorithm.{Kept, survivors, totals, offer, choice}
 use Rattle.viterbi.specs.Theorems.{Totals}
-use Rattle.viterbi.proofs.Steps.{not_none, some_same, split_then}
 use Rattle.viterbi.proofs.Cheapest.{unique}
 use Rattle.viterbi.proofs.Algorithm as program
 use Rattle.viterbi.proofs.Algorithm.{Least, least_of_lem, end_below}
@@ -15,9 +16,9 @@ use Rattle.viterbi.proofs.Growth.{survivor_is, one_step}
 module _ (K : Kind) (M : Meaning) where
   total_from : (xs : Log) (t : ℕ) (c : K.Cost) → t < M.modes → totals K M xs t ≡ Some c → (p : List ℕ) × CheapestTo K M xs t p c
   total_from xs t c l e =
-      let w = split_then (survivors K M xs t) (λ (x : Kept K). Some x.0) c e in
+      let w = came (survivors K M xs t) (λ (x : Kept K). Some x.0) c e in
       let x = w.0 in
-      (x.1, subst (CheapestTo K M xs t x.1) (some_same x.0 c w.2) ((survivor_is K M xs t x.1 x.0).0 (l, w.1)))
+      (x.1, subst (CheapestTo K M xs t x.1) (same_Some x.0 c w.2) ((survivor_is K M xs t x.1 x.0).0 (l, w.1)))
 
   total_to : (xs : Log) (t : ℕ) (p : List ℕ) (c : K.Cost) → CheapestTo K M xs t p c → (t < M.modes) × (totals K M xs t ≡ Some c)
   total_to xs t p c h = let s = (survivor_is K M xs t p c).1 h in (s.0, ap (λ o. option_and_then (λ (x : Kept K). Some x.0) o) s.1)
@@ -34,11 +35,11 @@ module _ (K : Kind) (M : Meaning) where
 
     took : (o : Option (K.Cost × ℕ)) (a : program.Found K M.modes offers o) → Took a.what
     took o a =
-        let w = split_then (totals K M (x ∷ xs) a.place) (λ (c : K.Cost). option_and_then (λ (d : K.Cost). Some (d, a.place)) (extended K M c a.place t r)) a.what a.reads in
+        let w = came (totals K M (x ∷ xs) a.place) (λ (c : K.Cost). option_and_then (λ (d : K.Cost). Some (d, a.place)) (extended K M c a.place t r)) a.what a.reads in
         let c = w.0 in
-        let z = split_then (extended K M c a.place t r) (λ (d : K.Cost). Some (d, a.place)) a.what w.2 in
+        let z = came (extended K M c a.place t r) (λ (d : K.Cost). Some (d, a.place)) a.what w.2 in
         let b = total_from (x ∷ xs) a.place c a.inside w.1 in
-        let is : (z.0, a.place) ≡ a.what = some_same {A = K.Cost × ℕ} (z.0, a.place) a.what z.2 in
+        let is : (z.0, a.place) ≡ a.what = same_Some {A = K.Cost × ℕ} (z.0, a.place) a.what z.2 in
         subst Took is (
           b.0,
           c,
@@ -63,13 +64,13 @@ module _ (K : Kind) (M : Meaning) where
         λ i. (u.1 i, s i)
 
     chosen_to : (y : K.Cost × ℕ) → choice K M (totals K M (x ∷ xs)) r t ≡ Some y → Least K M.modes offers (choice K M (totals K M (x ∷ xs)) r t) → Took y
-    chosen_to y e (inl n) = absurd (not_none y (sym n.0 ∙ e))
-    chosen_to y e (inr a) = subst Took (some_same a.what y (sym a.is ∙ e)) (took (choice K M (totals K M (x ∷ xs)) r t) a)
+    chosen_to y e (inl n) = absurd (none-some y (sym n.0 ∙ e))
+    chosen_to y e (inr a) = subst Took (same_Some a.what y (sym a.is ∙ e)) (took (choice K M (totals K M (x ∷ xs)) r t) a)
 
     chosen_from : (y : K.Cost × ℕ) → Took y → Least K M.modes offers (choice K M (totals K M (x ∷ xs)) r t) → choice K M (totals K M (x ∷ xs)) r t ≡ Some y
     chosen_from y h (inl n) =
         let k = h.2.cheapest in
-        absurd (not_none y (sym (n.1 y.1 (total_to (x ∷ xs) y.1 h.0 h.1 k).0) ∙ offered y.1 h.0 h.1 y.0 k h.2.makes))
+        absurd (none-some y (sym (n.1 y.1 (total_to (x ∷ xs) y.1 h.0 h.1 k).0) ∙ offered y.1 h.0 h.1 y.0 k h.2.makes))
     chosen_from y h (inr a) = a.is ∙ ap (λ (z : K.Cost × ℕ). Some z) (same_choice a.what y (took (choice K M (totals K M (x ∷ xs)) r t) a) h)
 
     look : Least K M.modes offers (choice K M (totals K M (x ∷ xs)) r t)
@@ -81,7 +82,7 @@ module _ (K : Kind) (M : Meaning) where
         let h = total_from (x ∷ xs ++ r ∷ []) t d below e in
         let o = (one_step K M x xs r t h.0 d).0 h.1 in
         let k = o.4.cheapest in
-        absurd (not_none (d, o.0) (sym (n o.0 (total_to (x ∷ xs) o.0 o.1 o.2 k).0) ∙ offered o.0 o.1 o.2 d k o.4.makes))
+        absurd (none-some (d, o.0) (sym (n o.0 (total_to (x ∷ xs) o.0 o.1 o.2 k).0) ∙ offered o.0 o.1 o.2 d k o.4.makes))
 
     next_at : Least K M.modes offers (choice K M (totals K M (x ∷ xs)) r t) → totals K M (x ∷ xs ++ r ∷ []) t ≡ option_and_then (λ y. Some y.0) (choice K M (totals K M (x ∷ xs)) r t)
     next_at (inl n) = none_next n.1 (totals K M (x ∷ xs ++ r ∷ []) t) refl ∙ sym (ap (λ (o : Option (K.Cost × ℕ)). option_and_then (λ y. Some y.0) o) n.0)

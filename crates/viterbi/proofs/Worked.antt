@@ -1,5 +1,6 @@
 -- The worked logs, computed by Viterbi's algorithm.
 use Rattle.std.proofs.Common.{◌≡◌, ℕ, ◌<◌, List, [], ◌∷◌, length, Some, sym, refl, ap, ◌∙◌, arith}
+use Rattle.std.proofs.lemmas.Option.{none-some}
 use Rattle.cost.specs.Kind.{Kind}
 use Rattle.cost.specs.Strict.{strict}
 use Rattle.cost.specs.Graded.{graded}
@@ -8,7 +9,6 @@ use Rattle.model.specs.Meaning.{Meaning}
 use Rattle.viterbi.specs.Paths.{Log, Reachable}
 use Rattle.viterbi.specs.Algorithm.{survivors, cheapest, decided, live_cells}
 use Rattle.viterbi.specs.Worked.{saw, even, wide, breach, Path, After, WorkedLogs}
-use Rattle.viterbi.proofs.Steps.{not_none}
 use Rattle.viterbi.proofs.Growth.{exists, survivor_is, cheapest_is, grows}
 use Rattle.viterbi.proofs.Count.{live_cells_lem}
 
@@ -28,7 +28,7 @@ barred t h =
     let e = exists strict breach (0 ∷ 0 ∷ []) t h in
     let k = (survivor_is strict breach (0 ∷ 0 ∷ []) t e.0 e.1).1 e.2 in
     let z : t ≡ 0 = omega (arith, k.0) in
-    not_none (e.1, e.0) (ap (survivors strict breach (0 ∷ 0 ∷ [])) (sym z) ∙ k.1)
+    none-some (e.1, e.0) (ap (survivors strict breach (0 ∷ 0 ∷ [])) (sym z) ∙ k.1)
 
 pub worked_logs_lem : WorkedLogs
 worked_logs_lem = record {

@@ -1,5 +1,5 @@
 -- Viterbi's algorithm: for each mode the cheapest path to it, one reading after the other.
-use Rattle.std.specs.Prelude.{◌≡◌, ℕ, zero, suc, Bool, false, cond, ◌||◌, ◌⊎◌, List, [], ◌∷◌, ◌++◌, length, Some, None, Option, ◌==◌, nat_le, slice_index, option_and_then}
+use Rattle.std.specs.Prelude.{◌≡◌, ℕ, zero, suc, Bool, false, if◌then◌else◌, ◌||◌, ◌⊎◌, List, [], ◌∷◌, ◌++◌, length, Some, None, Option, ◌==◌, nat_le, slice_index, option_and_then}
 use Rattle.std.proofs.Common.{inl, inr}
 use Rattle.cost.specs.Kind.{Kind, sum}
 use Rattle.model.specs.Meaning.{Meaning}
@@ -31,7 +31,7 @@ module _ (K : Kind) {A : Type 0} where
 abbrev pub meet : List ℕ → List ℕ → List ℕ
 meet [] q = []
 meet (a ∷ p) [] = []
-meet (a ∷ p) (b ∷ q) = cond (a == b) (a ∷ meet p q) []
+meet (a ∷ p) (b ∷ q) = if a == b then a ∷ meet p q else []
 
 -- The same of one path more.
 abbrev pub meet_next : (K : Kind) → Option (List ℕ) → Option (Kept K) → Option (List ℕ)
@@ -62,7 +62,7 @@ any_on K (suc n) f i s = on_path K (f n) i s || any_on K n f i s
 -- The cells of the reading i in those modes below n of which b holds.
 abbrev pub layer : ℕ → (ℕ → Bool) → ℕ → List (ℕ × ℕ)
 layer i b zero = []
-layer i b (suc n) = cond (b n) ((i, n) ∷ layer i b n) (layer i b n)
+layer i b (suc n) = if b n then (i, n) ∷ layer i b n else layer i b n
 
 module _ (K : Kind) (M : Meaning) where
   -- The path x to s, gone on to t at the reading r.
@@ -111,7 +111,7 @@ module _ (K : Kind) (M : Meaning) where
   -- The cells of the readings from d on, below m.
   abbrev pub cells_from : ℕ → (ℕ → Option (Kept K)) → ℕ → List (ℕ × ℕ)
   cells_from d f zero = []
-  cells_from d f (suc m) = cond (nat_le d m) (layer m (any_on K M.modes f m) M.modes ++ cells_from d f m) (cells_from d f m)
+  cells_from d f (suc m) = if nat_le d m then layer m (any_on K M.modes f m) M.modes ++ cells_from d f m else cells_from d f m
 
   -- The live cells.
   abbrev pub live_cells : Log → List (ℕ × ℕ)

@@ -1,6 +1,5 @@
 -- Paths through a model: what they cost, which is cheapest, what is decided and which cells are live.
-use Rattle.std.specs.Prelude.{◌≡◌, ℕ, ◌<◌, ◌≤◌, ◌⊎◌, List, [], ◌∷◌, length, Some, Option, slice_index}
-use Rattle.std.specs.List.{AllByRecursion}
+use Rattle.std.specs.Prelude.{◌≡◌, ℕ, ◌<◌, ◌≤◌, ◌⊎◌, List, [], ◌∷◌, length, All, Some, Option, slice_index}
 use Rattle.cost.specs.declared.charge.Charge.{Charge}
 use Rattle.cost.specs.Kind.{Kind, sum}
 use Rattle.model.specs.Meaning.{Meaning}
@@ -43,7 +42,7 @@ pub record LowerAtLast (p q : List ℕ) : Type 0 where
 module _ (K : Kind) (M : Meaning) where
   -- p is an open path for the readings xs, of cost c.
   pub record Open (xs : Log) (p : List ℕ) (c : K.Cost) : Type 0 where
-    pub modes : AllByRecursion (λ t. t < M.modes) p
+    pub modes : All (λ t. t < M.modes) p
     pub one_each : length p ≡ length xs
     pub costs : cost K M xs p ≡ Some c
 

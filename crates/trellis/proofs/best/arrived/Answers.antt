@@ -1,6 +1,6 @@
 use Rattle.std.proofs.Common.{sym, ap, ◌∙◌, subst}
+use Rattle.std.proofs.lemmas.Option.{none-some}
 use Rattle.trellis.specs.Carried.{Arrived, best_from}
-use Rattle.viterbi.proofs.Steps.{not_none}
 use Rattle.trellis.proofs.Ways.{arrived}
 use Rattle.trellis.proofs.best.arrived.Goals as goal
 
@@ -10,7 +10,7 @@ returns-in_err-total-2 g c =
     let none = c.from_residual-in_err-total-2.ensures in
     record {
       carried = subst (Arrived K c.args.best c.args.reading) (sym none) (arrived K c.in_ok-total.field-0 _ _ _ c.in_ok-total.was c.in_err-total-2.ensures);
-      same = λ s e. absurd (not_none s (sym (ap best_from none) ∙ e));
+      same = λ s e. absurd (none-some s (sym (ap best_from none) ∙ e));
     }
 
 pub returns : goal.returns
