@@ -3,7 +3,8 @@ use Rattle.std.proofs.Common.{◌≡◌, ℕ, ◌+◌, ◌-◌, ◌%◌, ◌<◌
 use Rattle.std.proofs.lemmas.Bool.{cases_lt}
 use Rattle.std.proofs.lemmas.List.{length-append, get_or_append_left, get_or-append_right}
 use Rattle.survivors.specs.Ring.{Written}
-use Rattle.decoder.specs.Decoder.{PLACES, InRing}
+use Rattle.decoder.specs.Shown.{PLACES}
+use Rattle.decoder.specs.Decoder.{InRing}
 
 apart : (i k : ℕ) → i < k → k < i + PLACES → i % PLACES ≡ k % PLACES → ⊥
 apart i k l m e = omega arith

@@ -13,8 +13,9 @@ use Rattle.viterbi.specs.Algorithm.{Kept}
 use Rattle.viterbi.proofs.Algorithm.{end_below}
 use Rattle.viterbi.proofs.Growth.{exists, one_step, survivor_is, grows}
 use Rattle.trellis.specs.declared.best.Best.{Best}
-use Rattle.trellis.specs.Rows.{READINGS, First, Next, EndsAt}
-use Rattle.trellis.specs.State.{present}
+use Rattle.trellis.specs.Size.{READINGS}
+use Rattle.trellis.specs.Rows.{First, Next, EndsAt}
+use Rattle.trellis.specs.State.{modes, present}
 use Rattle.survivors.specs.declared.Survivors.{Survivors}
 use Rattle.survivors.specs.Survivors.{HasTip, OnPath, PathOf, Grown, Settled, Finished, path_to, taken}
 use Rattle.survivors.specs.Survivors as tree
@@ -125,7 +126,7 @@ module _ (K : Kind) (M : Meaning) where
         let f = goes.from u q c h in
         f.2 ∙ append_assoc d (path_to e.tree f.0) (u ∷ []) ∙ ap (λ z. d ++ z) (sym (g.paths u f.0 f.1))
 
-    module _ (e' : Decoder) (w : Settled t e.ring e'.tree e'.ring) (short : length xs < READINGS) (modes : e'.rows.modes ≡ M.modes) (totals : Totalled K M (xs ++ r ∷ []) (present e'.rows)) (some : (t : ℕ) × Reachable K M (xs ++ r ∷ []) t) where
+    module _ (e' : Decoder) (w : Settled t e.ring e'.tree e'.ring) (short : length xs < READINGS) (few : modes e'.rows ≡ M.modes) (totals : Totalled K M (xs ++ r ∷ []) (present e'.rows)) (some : (t : ℕ) × Reachable K M (xs ++ r ∷ []) t) where
       many_now : taken t ≡ length (xs ++ r ∷ [])
       many_now = omega (arith, g.one_more, s.many, length_push xs r)
 
@@ -160,7 +161,7 @@ module _ (K : Kind) (M : Meaning) where
 
       pub stepped : Stands K M (xs ++ r ∷ []) e'
       stepped = record {
-        modes = modes;
+        modes = few;
         many = w.none_taken ∙ many_now;
         short = omega (arith, length_push xs r);
         some = λ _. some;

@@ -8,21 +8,19 @@ use Rattle.cost.specs.Kind.{Kind}
 use Rattle.model.specs.Meaning.{Meaning}
 use Rattle.viterbi.specs.Lists.{Counted}
 use Rattle.viterbi.specs.Paths.{Reading, Log, Reachable, CheapestTo, CheapestOf, Decided, Live}
-use Rattle.trellis.specs.Rows.{READINGS, First, Next}
+use Rattle.trellis.specs.Size.{READINGS}
+use Rattle.trellis.specs.Rows.{First, Next}
 use Rattle.trellis.specs.Rows as rows
 use Rattle.trellis.specs.State.{present}
 use Rattle.trellis.specs.State as state
-use Rattle.survivors.specs.Survivors.{HasTip, OnPath, path_to, taken}
+use Rattle.survivors.specs.Survivors.{HasTip, OnPath, path_to}
 use Rattle.survivors.specs.Survivors as tree
 use Rattle.decoder.specs.declared.Decoder.{Decoder}
+use Rattle.decoder.specs.Shown.{PLACES, taken}
 
 -- The cells of the survivor tree.
 abbrev pub CELLS : ℕ
 CELLS = 1024
-
--- The places of the ring.
-abbrev pub PLACES : ℕ
-PLACES = 4096
 
 -- The last 4,096 of the modes d stand at their places in the ring.
 abbrev pub InRing : List ℕ → List ℕ → Type 0
@@ -30,7 +28,7 @@ InRing d ring = (i : ℕ) → i < length d → length d ≤ i + PLACES → slice
 
 -- No reading is taken, and there are n modes.
 pub record Fresh (n : ℕ) (d : Decoder) : Type 0 where
-  pub modes : d.rows.modes ≡ n
+  pub modes : state.modes d.rows ≡ n
   pub tree : tree.Blank d.tree
 
 module _ (K : Kind) (M : Meaning) where
@@ -41,8 +39,8 @@ module _ (K : Kind) (M : Meaning) where
 
   -- The decoder stands after the readings xs.
   pub record Stands (xs : Log) (d : Decoder) : Type 0 where
-    pub modes : d.rows.modes ≡ M.modes
-    pub many : taken d.tree ≡ length xs
+    pub modes : state.modes d.rows ≡ M.modes
+    pub many : taken d ≡ length xs
     pub short : length xs ≤ READINGS
     -- after a reading some mode is reachable
     pub some : 0 < length xs → (t : ℕ) × Reachable K M xs t
@@ -54,7 +52,7 @@ module _ (K : Kind) (M : Meaning) where
     pub settled : tree.decided d.tree ≡ length decided
     pub ready : InRing decided d.ring
     -- the paths of the tips are the rest of the cheapest paths
-    pub tips : tree.decided d.tree < taken d.tree → (u : ℕ) → HasTip d.tree u ↔ Reachable K M xs u
+    pub tips : tree.decided d.tree < taken d → (u : ℕ) → HasTip d.tree u ↔ Reachable K M xs u
     pub rest : (u : ℕ) (p : List ℕ) (c : K.Cost) → CheapestTo K M xs u p c → p ≡ decided ++ path_to d.tree u
     -- and their cells are the live ones
     pub live : (n : ℕ) → Counted (OnPath d.tree) n → Live K M xs n
@@ -65,7 +63,7 @@ module _ (K : Kind) (M : Meaning) where
     pub cost : K.Cost
     pub cheapest : CheapestOf K M xs path cost
     pub total : w ≡ K.carried cost
-    pub many : taken d.tree ≡ length xs
+    pub many : taken d ≡ length xs
     pub settled : tree.decided d.tree ≡ length xs
     pub ready : InRing path d.ring
     pub none_live : Counted (OnPath d.tree) 0

@@ -2,9 +2,8 @@
 use Rattle.std.proofs.Common.{◌≡◌, ℕ, zero, suc, ◌+◌, ◌*◌, ◌<◌, ◌≤◌, ◌⊎◌, List, [], ◌∷◌, ◌++◌, length, Some, None, Option, sym, refl, ap, ◌∙◌, subst, inl, inr, add-one, arith, option_and_then}
 use Rattle.std.proofs.lemmas.Option.{none-some, same_Some}
 use Rattle.cost.specs.Sums.{came}
-use Rattle.cost.specs.declared.charge.Charge.{Charge}
 use Rattle.cost.specs.declared.charge.Total.{Total}
-use Rattle.cost.specs.Kind.{Kind, MOST, sum, carried_of}
+use Rattle.cost.specs.Kind.{Kind, MOST, sum, carried_of, Charged}
 use Rattle.cost.proofs.Arising.{added_append}
 use Rattle.model.specs.Meaning.{Meaning}
 use Rattle.viterbi.specs.Lists.{EndsIn}
@@ -16,7 +15,7 @@ use Rattle.viterbi.proofs.Growth.{exists, one_step}
 use Rattle.viterbi.proofs.Totals.{suffice}
 use Rattle.trellis.specs.declared.best.Best.{Best}
 use Rattle.trellis.specs.Carried.{Room, Way, from, and, best, carried_way, HasRoom, WayHasRoom, Through, Better, Arrived}
-use Rattle.trellis.specs.Rows.{total_at, Held, passage, Into, LeastIn, Stands, EntersBy, Stood, Ready, EndsAt}
+use Rattle.trellis.specs.Rows.{total_at, Held, passage, Into, LeastBy, Stands, EntersBy, Stood, Ready, EndsAt}
 use Rattle.trellis.proofs.Ways.{room_next}
 
 -- a path has two charges for each reading
@@ -54,24 +53,16 @@ module _ (K : Kind) where
   least_room k zero f h = λ c s e. absurd (none-some (c, s) e)
   least_room k (suc n) f h = better_room k (least_of K n f) (f n) (least_room k n f (λ u l. h u (omega arith))) (h n (omega arith))
 
-  module _ (k : ℕ) (row : List (Option Total)) where
-    pub least_more : (s : ℕ) (b r : Option Best) (a : Option Total) → s < k → a ≡ total_at row s → Better K b a s r → LeastIn K k row s b → LeastIn K k row (s + 1) r
-    least_more s b r a l is_a picks inv o held =
-        rw add-one (picks (least_of K s (λ u. from K (o u) u)) (o s) (least_room 0 s (λ u. from K (o u) u) (λ u m. from_room 0 (o u) u (held u (omega arith)).1)) (held s l).1 (inv o held) (is_a ∙ (held s l).0))
+  pub least_more : (P : ℕ → Option Total → Type 0) (s : ℕ) (b r : Option Best) (a : Option Total) → P s a → Better K b a s r → LeastBy K s P b → LeastBy K (s + 1) P r
+  least_more P s b r a told picks inv o t =
+      rw add-one (picks (least_of K s (λ u. from K (o u) u)) (o s) (least_room 0 s (λ u. from K (o u) u) (λ u m. from_room 0 (o u) u (t u (omega arith)).1)) (t s (omega arith)).1 (inv o (λ u m. t u (omega arith))) ((t s (omega arith)).0 a told))
 
   module _ (M : Meaning) (k : ℕ) (row : List (Option Total)) (t : ℕ) where
     ways_room : (o : ℕ → Option K.Cost) → Held K k 2 o row → (n : ℕ) → n ≤ k → WayHasRoom K 1 (least_of K n (passage K M o t))
     ways_room o held n l = least_room 1 n (passage K M o t) (λ u m. from_room 1 _ u (room_next K 1 (o u) (M.passage u t) (held u (omega arith)).1))
 
-    pub into_more : (s : ℕ) (b r : Option Best) (a next : Option Total) (h : Charge) → s < k → a ≡ total_at row s → h ≡ M.passage s t → Through K a h next → Better K b next s r → Into K M k row t s b → Into K M k row t (s + 1) r
-    into_more s b r a next h l is_a is_h through picks inv o held =
-        let m = held s l in
-        let after = room_next K 1 (o s) (M.passage s t) m.1 in
-        let e : next ≡ carried_of K (option_and_then (λ c. sum K c (M.passage s t ∷ [])) (o s)) = through' (o s) (λ c i. room_less 1 c (m.1 c i)) m.0 in
-        rw add-one (picks (least_of K s (passage K M o t)) _ (λ c u i. room_less 0 c (ways_room o held s (omega arith) c u i)) (λ c i. room_less 0 c (after c i)) (inv o held) e)
-      where
-        through' : Through K (total_at row s) (M.passage s t) next
-        through' = subst (λ h. Through K (total_at row s) h next) is_h (subst (λ a. Through K a h next) is_a through)
+    pub least_into : (P : ℕ → Option Total → Type 0) (b : Option Best) → ((s : ℕ) (a : Option Total) → s < k → P s a → Through K (total_at row s) (M.passage s t) a) → LeastBy K k P b → Into K M k row t k b
+    least_into P b through least o held = least (λ s. option_and_then (λ c. sum K c (M.passage s t ∷ [])) (o s)) (λ s l. let m = held s l in (λ a p. through s a l p (o s) (λ c i. room_less 1 c (m.1 c i)) m.0, λ c i. room_less 0 c (room_next K 1 (o s) (M.passage s t) m.1 c i)))
 
   -- a row that stands carries the totals of the modes
   module _ (M : Meaning) (x : Reading) (xs : Log) (row : List (Option Total)) (stands : Stands K M (x ∷ xs) row) (n : ℕ) (few : 2 * length (x ∷ xs) + n ≤ MOST) where
@@ -173,11 +164,11 @@ module _ (K : Kind) where
       looked w (inl n) = subst (λ w. EntersBy K M (x ∷ xs) r t (carried_way K (and K w (M.reading t r)))) (sym n.0) (none n.1)
       looked w (inr a) = subst (λ w. EntersBy K M (x ∷ xs) r t (carried_way K (and K w (M.reading t r)))) (sym a.is) (found w a _ refl)
 
-      pub entered : (b c : Option Best) (h : Charge) → h ≡ M.reading t r → Into K M k row t k b → Arrived K b h c → EntersBy K M (x ∷ xs) r t c
-      entered b c h is_h into arrives =
+      pub entered : (b c : Option Best) → Into K M k row t k b → Arrived K b (M.reading t r) c → EntersBy K M (x ∷ xs) r t c
+      entered b c into arrives =
           let e : b ≡ carried_way K (least_of K M.modes ways) = subst (λ n. b ≡ carried_way K (least_of K n ways)) ready.stood.fits (into costs two_more) in
           let f = arrives (least_of K M.modes ways) (ways_room M k row t costs two_more M.modes (omega (arith, ready.stood.fits))) e in
-          subst (EntersBy K M (x ∷ xs) r t) (sym (f ∙ ap (λ h. carried_way K (and K (least_of K M.modes ways) h)) is_h)) (looked _ (least_of_lem K ways M.modes))
+          subst (EntersBy K M (x ∷ xs) r t) (sym f) (looked _ (least_of_lem K ways M.modes))
 
   module _ (M : Meaning) (x : Reading) (xs : Log) (row : List (Option Total)) (k : ℕ) (stood : Stood K M k x xs row) where
     abbrev ends : ℕ → Way K
@@ -203,15 +194,16 @@ module _ (K : Kind) where
           refl,
         )
 
-    pub ended : (r : Option Best) → LeastIn K k row k r → EndsAt K M (x ∷ xs) r
-    ended r h =
-        let k = subst (λ n. r ≡ carried_way K (least_of K n ends)) stood.fits (h (totals K M (x ∷ xs)) (subst (λ k. Held K k 0 (totals K M (x ∷ xs)) row) (sym stood.fits) (held M x xs row stood.stands 0 (omega (arith, stood.short))))) in
+    pub ended : (P : ℕ → Option Total → Type 0) (r : Option Best) → ((s : ℕ) (a : Option Total) → s < k → P s a → a ≡ total_at row s) → LeastBy K k P r → EndsAt K M (x ∷ xs) r
+    ended P r reads h =
+        let has = subst (λ k. Held K k 0 (totals K M (x ∷ xs)) row) (sym stood.fits) (held M x xs row stood.stands 0 (omega (arith, stood.short))) in
+        let k = subst (λ n. r ≡ carried_way K (least_of K n ends)) stood.fits (h (totals K M (x ∷ xs)) (λ s l. (λ a p. reads s a l p ∙ (has s l).0, (has s l).1))) in
         subst (EndsAt K M (x ∷ xs)) (sym k) (end_at _ (least_of_lem K ends M.modes))
 
   -- after the first reading
-  pub begun : (M : Meaning) (r : Reading) (t : ℕ) (z : Total) (a b : Option Total) (h k : Charge) → z ≡ K.carried K.zero → h ≡ M.start t → k ≡ M.reading t r → Through K (Some z) h a → Through K a k b → b ≡ carried_of K (cost K M (r ∷ []) (t ∷ []))
-  begun M r t z a b h k is_z is_h is_k first second =
+  pub begun : (M : Meaning) (r : Reading) (t : ℕ) (a b : Option Total) → Charged K (K.carried K.zero) (M.start t) a → Through K a (M.reading t r) b → b ≡ carried_of K (cost K M (r ∷ []) (t ∷ []))
+  begun M r t a b first second =
       let room : HasRoom K 2 (Some K.zero) = λ c e. record { charges = []; few = omega arith; comes = e } in
-      let e = first (Some K.zero) (λ c i. room_less 1 c (room c i)) (ap Some is_z) in
-      let f = second (sum K K.zero (h ∷ [])) (room_next K 1 (Some K.zero) h room) e in
-      f ∙ ap (carried_of K) (sym (added_append K.cost_of K.add K.zero (h ∷ []) (k ∷ [])) ∙ ap (λ h. sum K K.zero (h ∷ k ∷ [])) is_h ∙ ap (λ k. sum K K.zero (M.start t ∷ k ∷ [])) is_k)
+      let e = first [] K.zero (omega arith) refl refl in
+      let f = second (sum K K.zero (M.start t ∷ [])) (room_next K 1 (Some K.zero) (M.start t) room) e in
+      f ∙ ap (carried_of K) (sym (added_append K.cost_of K.add K.zero (M.start t ∷ []) (M.reading t r ∷ [])))

@@ -1,6 +1,6 @@
 -- A row that is written mode by mode.
-use Rattle.std.proofs.Common.{◌≡◌, ℕ, ◌+◌, ◌<◌, Bool, true, false, ◌||◌, ◌⊎◌, ◌↔◌, List, [], ◌∷◌, ◌++◌, length, get_or, set, is_some, Some, None, MatchBool, Option, sym, refl, ap, ◌∙◌, subst, inl, inr, add-one, arith, option_and_then}
-use Rattle.std.proofs.lemmas.List.{get_or-set_same, get_or-set_other}
+use Rattle.std.proofs.Common.{◌≡◌, ℕ, ◌+◌, ◌-◌, ◌<◌, Bool, true, false, ◌||◌, ◌⊎◌, ◌↔◌, List, [], ◌∷◌, ◌++◌, length, drop, get_or, set, is_some, Some, None, MatchBool, Option, sym, refl, ap, ◌∙◌, subst, inl, inr, add-one, arith, option_and_then}
+use Rattle.std.proofs.lemmas.List.{get_or-set_same, get_or-set_other, get_or-drop, length-drop, ext_get_or}
 use Rattle.std.proofs.lemmas.Option.{none-some, same_Some}
 use Rattle.cost.specs.declared.charge.Total.{Total}
 use Rattle.cost.specs.Kind.{Kind, carried_of}
@@ -11,7 +11,7 @@ use Rattle.viterbi.proofs.Cheapest.{unique}
 use Rattle.viterbi.proofs.Growth.{exists, one_step, survivor_is}
 use Rattle.viterbi.proofs.Totals.{suffice}
 use Rattle.trellis.specs.declared.best.Best.{Best}
-use Rattle.trellis.specs.Rows.{total_at, from_at, EntersBy, Ready, Tells, Next, First, Filled, Beyond, EnteredBy, BegunBy, Backed, Marked, AllBacked, AllThemselves}
+use Rattle.trellis.specs.Rows.{total_at, from_at, EntersBy, Ready, Tells, Next, First, Filled, Beyond, WrittenBy, WayIn, OneBy, BegunBy, AllBacked}
 use Rattle.trellis.specs.Carried.{best_total, best_from, OneOf}
 
 module _ {A : Type 0} (l : List (Option A)) (n : ℕ) (a : Option A) where
@@ -46,7 +46,20 @@ module _ (P : ℕ → Option Total → Option ℕ → Type 0) (n : ℕ) (row₀ 
 pub filled_none : (P : ℕ → Option Total → Option ℕ → Type 0) (row : List (Option Total)) (from : List (Option ℕ)) → Filled P 0 row row from from false
 filled_none P row from = record { each = λ t l. absurd (omega arith); tells = λ t l. absurd (omega arith); beyond = λ t l. refl; beyond_from = λ t l. refl }
 
-module _ (K : Kind) (M : Meaning) (x : Reading) (xs : Log) (r : Reading) (old row₀ row : List (Option Total)) (from₀ from : List (Option ℕ)) (any : Bool) (k : ℕ) (ready : Ready K M k x xs old) (f : Filled (EnteredBy K M k old r) M.modes row₀ row from₀ from any) where
+-- what is told of each mode, said otherwise
+pub written_as : (P Q : ℕ → Option Best → Type 0) (n : ℕ) (row₀ row : List (Option Total)) (from₀ from : List (Option ℕ)) (any : Bool) → ((t : ℕ) (b : Option Best) → t < n → P t b → Q t b) → Filled (WrittenBy P) n row₀ row from₀ from any → Filled (WrittenBy Q) n row₀ row from₀ from any
+written_as P Q n row₀ row from₀ from any h f = record {
+  each = λ t l. let e = f.each t l in record { way = e.way; told = h t e.way l e.told; total = e.total; from = e.from };
+  tells = f.tells;
+  beyond = f.beyond;
+  beyond_from = f.beyond_from;
+}
+
+-- the first reading in the mode t, from itself
+abbrev pub Begins : Kind → Meaning → Reading → ℕ → Option Best → Type 0
+Begins K M r t b = BegunBy K M r t (best_total b) (best_from b)
+
+module _ (K : Kind) (M : Meaning) (x : Reading) (xs : Log) (r : Reading) (old row₀ row : List (Option Total)) (from₀ from : List (Option ℕ)) (any : Bool) (k : ℕ) (ready : Ready K M k x xs old) (f : Filled (WrittenBy (WayIn K M k old r)) M.modes row₀ row from₀ from any) where
   abbrev long : Log
   long = x ∷ xs ++ r ∷ []
 
@@ -61,7 +74,7 @@ module _ (K : Kind) (M : Meaning) (x : Reading) (xs : Log) (r : Reading) (old ro
   Mode t = ((total_at row t ≡ None) × (from_at from t ≡ None) × (Reachable K M long t → ⊥)) ⊎ ((s : ℕ) × (p : List ℕ) × (c : K.Cost) × (d : K.Cost) × Chosen K M (x ∷ xs) r t s p c d × (total_at row t ≡ Some (K.carried d)) × (from_at from t ≡ Some s))
 
   mode : (t : ℕ) → t < M.modes → Mode t
-  mode t l = let e = f.each t l in at e.way (e.entered x xs ready l) e.total e.from
+  mode t l = let e = f.each t l in at e.way (e.told.0 x xs ready l) e.total e.from
     where
       at : (b : Option Best) → EntersBy K M (x ∷ xs) r t b → total_at row t ≡ best_total b → from_at from t ≡ best_from b → Mode t
       at None h w s = inl (w, s, h)
@@ -107,12 +120,15 @@ module _ (K : Kind) (M : Meaning) (x : Reading) (xs : Log) (r : Reading) (old ro
   pub next : Next K M (x ∷ xs) r row from any
   next = record { stands = record { reached = reached; only = only }; chosen = chosen; tells = tells any f.tells }
 
-module _ (K : Kind) (M : Meaning) (r : Reading) (row₀ row : List (Option Total)) (from₀ from : List (Option ℕ)) (any : Bool) (f : Filled (BegunBy K M r) M.modes row₀ row from₀ from any) where
+module _ (K : Kind) (M : Meaning) (r : Reading) (row₀ row : List (Option Total)) (from₀ from : List (Option ℕ)) (any : Bool) (f : Filled (WrittenBy (Begins K M r)) M.modes row₀ row from₀ from any) where
+  begun : (t : ℕ) → t < M.modes → BegunBy K M r t (total_at row t) (from_at from t)
+  begun t l = let e = f.each t l in (e.total ∙ e.told.0, e.from ∙ e.told.1 ∙ ap (λ w. option_and_then (λ _. Some t) w) (sym e.total))
+
   abbrev Start : ℕ → Type 0
   Start t = ((total_at row t ≡ None) × (from_at from t ≡ None) × (Reachable K M (r ∷ []) t → ⊥)) ⊎ ((c : K.Cost) × CheapestTo K M (r ∷ []) t (t ∷ []) c × (total_at row t ≡ Some (K.carried c)) × (from_at from t ≡ Some t))
 
   start : (t : ℕ) → t < M.modes → Start t
-  start t l = at (cost K M (r ∷ []) (t ∷ [])) refl (f.each t l).0 (f.each t l).1
+  start t l = at (cost K M (r ∷ []) (t ∷ [])) refl (begun t l).0 (begun t l).1
     where
       at : (o : Option K.Cost) → cost K M (r ∷ []) (t ∷ []) ≡ o → total_at row t ≡ carried_of K (cost K M (r ∷ []) (t ∷ [])) → from_at from t ≡ option_and_then (λ _. Some t) (total_at row t) → Start t
       at None e w s =
@@ -169,27 +185,15 @@ both_some : (b : Option Best) → is_some (best_total b) ≡ is_some (best_from 
 both_some None = refl
 both_some (Some b) = refl
 
-module _ (K : Kind) (M : Meaning) (n : ℕ) (old row₀ row : List (Option Total)) (r : Reading) (from₀ from : List (Option ℕ)) (any : Bool) (f : Filled (EnteredBy K M n old r) n row₀ row from₀ from any) where
-  pub next_marked : Marked n row from any
-  next_marked = record { same = λ t l. let e = f.each t l in ap is_some e.total ∙ both_some e.way ∙ ap is_some (sym e.from); tells = f.tells }
-
+module _ (K : Kind) (M : Meaning) (n : ℕ) (old row₀ row : List (Option Total)) (r : Reading) (from₀ from : List (Option ℕ)) (any : Bool) (f : Filled (WrittenBy (WayIn K M n old r)) n row₀ row from₀ from any) where
   pub next_backed : AllBacked n old from
-  next_backed t s l e = let k = f.each t l in k.backed s (sym k.from ∙ e)
+  next_backed t s l e = let k = f.each t l in k.told.1 s (sym k.from ∙ e)
 
-marked : (w : Option Total) (t s : ℕ) → option_and_then (λ _. Some t) w ≡ Some s → s ≡ t
-marked None t s e = absurd (none-some s e)
-marked (Some w) t s e = sym (same_Some t s e)
+-- the better of two is one of the modes so far
+pub one_more : (P : ℕ → Option Total → Type 0) (s : ℕ) (b r : Option Best) (a : Option Total) → P s a → OneOf b a s r → OneBy s P b → OneBy (s + 1) P r
+one_more P s b r a told (inl e) one u i = let k = one u (sym (ap best_from e) ∙ i) in (omega (arith, k.0), k.1)
+one_more P s b r a told (inr e) one u i = let k = same_Some s u (sym e.1 ∙ i) in (omega (arith, k), (a, subst (λ s. P s a) k told, e.0))
 
-module _ (K : Kind) (M : Meaning) (n : ℕ) (row₀ row : List (Option Total)) (r : Reading) (from₀ from : List (Option ℕ)) (any : Bool) (f : Filled (BegunBy K M r) n row₀ row from₀ from any) where
-  pub first_marked : Marked n row from any
-  first_marked = record { same = λ t l. some_mark (total_at row t) t ∙ ap is_some (sym (f.each t l).1); tells = f.tells }
-
-  pub first_themselves : AllThemselves n from
-  first_themselves t s l e = marked (total_at row t) t s (sym (f.each t l).1 ∙ e)
-
--- the better of two is backed if both are
-pub one_backed : (n s : ℕ) (row : List (Option Total)) (b r : Option Best) (a : Option Total) → s < n → (is_some a ≡ true → is_some (total_at row s) ≡ true) → OneOf b a s r → Backed n row b → Backed n row r
-one_backed n s row b r a l some (inl e) back u i = back u (sym (ap best_from e) ∙ i)
-one_backed n s row b r a l some (inr e) back u i =
-    let k = same_Some s u (sym e.1 ∙ i) in
-    (subst (λ s. s < n) k l, subst (λ s. is_some (total_at row s) ≡ true) k (some e.0))
+-- lists that are alike beyond n have the same rest from n on
+pub rest_same : (n : ℕ) (xs ys : List (Option Total)) → length xs ≡ length ys → Beyond n xs ys → drop n xs ≡ drop n ys
+rest_same n xs ys many same = ext_get_or None (drop n xs) (drop n ys) (length-drop n xs ∙ ap (λ m. m - n) many ∙ sym (length-drop n ys)) (λ i l. get_or-drop n xs i None ∙ same (n + i) (omega arith) ∙ sym (get_or-drop n ys i None))

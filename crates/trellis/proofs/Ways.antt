@@ -5,6 +5,7 @@ use Rattle.cost.specs.declared.charge.Total.{Total}
 use Rattle.cost.specs.Kind.{Kind, sum, Carries, carried_of, Charged, Compared}
 use Rattle.std.proofs.lemmas.List.{length_push}
 use Rattle.cost.specs.Sums.{came}
+use Rattle.std.proofs.lemmas.Option.{none-some}
 use Rattle.cost.proofs.Arising.{added_append, carried_from}
 use Rattle.viterbi.specs.Algorithm.{chosen_of, better}
 use Rattle.trellis.specs.declared.best.Best.{Best}
@@ -29,6 +30,10 @@ module _ (K : Kind) where
   through t h r a is charged o room e =
       let y = carried_from K o t (sym is ∙ e) in
       with_charge t h r y.0 charged (room y.0 y.1) y.2 ∙ sym (ap (λ o. carried_of K (option_and_then (λ c. sum K c (h ∷ [])) o)) y.1)
+
+  pub through_none : (h : Charge) → Through K None h None
+  through_none h None room e = refl
+  through_none h (Some c) room e = absurd (none-some (K.carried c) e)
 
   -- a way that is carried
   pub way_from : (w : Way K) (b : Best) → Some b ≡ carried_way K w → (c : K.Cost) × (w ≡ Some (c, b.from)) × (b.total ≡ K.carried c)

@@ -1,3 +1,4 @@
 pub mod Carried
 pub mod Rows
+pub mod Size
 pub mod State

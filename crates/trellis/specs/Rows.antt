@@ -7,15 +7,8 @@ use Rattle.viterbi.specs.Lists.{EndsIn}
 use Rattle.viterbi.specs.Paths.{Reading, Log, Reachable, CheapestTo, CheapestOf, Chosen, cost}
 use Rattle.viterbi.specs.Algorithm.{least_of}
 use Rattle.trellis.specs.declared.best.Best.{Best}
+use Rattle.trellis.specs.Size.{READINGS}
 use Rattle.trellis.specs.Carried.{Way, from, carried_way, HasRoom, best_total, best_from}
-
--- The most modes that a row has room for.
-abbrev pub MODES : ℕ
-MODES = 32
-
--- The most readings of a log.
-abbrev pub READINGS : ℕ
-READINGS = 1000000
 
 -- The total in t, if there is one.
 abbrev pub total_at : List (Option Total) → ℕ → Option Total
@@ -37,9 +30,24 @@ passage K M o t s = from K (option_and_then (λ c. sum K c (M.passage s t ∷ []
 abbrev pub Into : Kind → Meaning → ℕ → List (Option Total) → ℕ → ℕ → Option Best → Type 0
 Into K M k row t n r = (o : ℕ → Option K.Cost) → Held K k 2 o row → r ≡ carried_way K (least_of K n (passage K M o t))
 
--- Of the first n of k modes, r is the first of least cost.
-abbrev pub LeastIn : Kind → ℕ → List (Option Total) → ℕ → Option Best → Type 0
-LeastIn K k row n r = (o : ℕ → Option K.Cost) → Held K k 0 o row → r ≡ carried_way K (least_of K n (λ s. from K (o s) s))
+-- Each total that P tells of one of the first n modes carries its cost in o.
+abbrev pub Told : (K : Kind) → ℕ → (ℕ → Option K.Cost) → (ℕ → Option Total → Type 0) → Type 0
+Told K n o P = (s : ℕ) → s < n → ((a : Option Total) → P s a → a ≡ carried_of K (o s)) × HasRoom K 0 (o s)
+
+-- Of the first n modes, whose totals P tells, r is the first of least cost.
+abbrev pub LeastBy : Kind → ℕ → (ℕ → Option Total → Type 0) → Option Best → Type 0
+LeastBy K n P r = (o : ℕ → Option K.Cost) → Told K n o P → r ≡ carried_way K (least_of K n (λ s. from K (o s) s))
+
+-- The mode that r comes from is one of the first n, and P tells a total of it.
+abbrev pub OneBy : ℕ → (ℕ → Option Total → Type 0) → Option Best → Type 0
+OneBy n P r = (s : ℕ) → best_from r ≡ Some s → (s < n) × ((a : Option Total) × P s a × (is_some a ≡ true))
+
+-- The mode t is written with the total w and the predecessor s of a way that P tells of it.
+pub record WrittenBy (P : ℕ → Option Best → Type 0) (t : ℕ) (w : Option Total) (s : Option ℕ) : Type 0 where
+  pub way : Option Best
+  pub told : P t way
+  pub total : w ≡ best_total way
+  pub from : s ≡ best_from way
 
 module _ (K : Kind) (M : Meaning) where
   -- The row after the readings xs: each reachable mode has the total of its cheapest path, and no other mode has one.
@@ -111,13 +119,9 @@ pub record Filled (P : ℕ → Option Total → Option ℕ → Type 0) (n : ℕ)
 abbrev pub Backed : ℕ → List (Option Total) → Option Best → Type 0
 Backed n old b = (s : ℕ) → best_from b ≡ Some s → (s < n) × (is_some (total_at old s) ≡ true)
 
--- The mode t is entered as its total w and its predecessor s say.
-pub record EnteredBy (K : Kind) (M : Meaning) (n : ℕ) (old : List (Option Total)) (r : Reading) (t : ℕ) (w : Option Total) (s : Option ℕ) : Type 0 where
-  pub way : Option Best
-  pub entered : Entered K M n old r t way
-  pub backed : Backed n old way
-  pub total : w ≡ best_total way
-  pub from : s ≡ best_from way
+-- b is the best way into the mode t at the reading r, from one of the first n modes of the row old.
+abbrev pub WayIn : Kind → Meaning → ℕ → List (Option Total) → Reading → ℕ → Option Best → Type 0
+WayIn K M n old r t b = Entered K M n old r t b × Backed n old b
 
 -- The mode t has the total w of one reading, and itself as predecessor s, where it is reachable.
 abbrev pub BegunBy : Kind → Meaning → Reading → ℕ → Option Total → Option ℕ → Type 0

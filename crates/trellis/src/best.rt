@@ -1,29 +1,27 @@
 ghost use Rattle.std.specs.Prelude.{◌≡◌, ℕ, true, is_some, Some};
-ghost use Rattle.cost.specs.Kind.{Compared};
 ghost use Rattle.trellis.specs.Carried.{Through, Better, Arrived, OneOf, best_from};
 
-use cost::{Charge, CostKind, Total};
+use cost::{CostKind, Total};
+use model::{Costs, Model};
 
 /// The best way into a mode: its total, and the mode that it comes from.
-#[derive(Clone, Copy)]
+#[derive(Clone, Copy, PartialEq, Eq, Debug)]
 pub struct Best {
     pub total: Total,
     pub from: u8,
 }
 
-/// The total with one more charge, if there is one.
-pub fn through<C: CostKind>(kind: &C, total: Option<Total>, passage: Charge) -> Option<Total>
-    ensures carried { Through (C.CostKind.kind kind.now) total passage result }
+/// The total of a mode with the passage from it to another, if there is one.
+pub fn through<M: Model, C: CostKind>(
+    costs: &Costs<M, C>,
+    total: Option<Total>,
+    from: usize,
+    to: usize,
+) -> Option<Total>
+    ensures carried { Through (C.CostKind.kind costs.now.kind.now) total ((M.Model.meaning costs.now.model.now).passage from to) result }
     ensures some { is_some result ≡ true → is_some total ≡ true }
 {
-    kind.charged(total?, passage)
-}
-
-/// Whether a total is less than the best so far.
-fn beats<C: CostKind>(kind: &C, total: Total, best: Total) -> bool
-    ensures { Compared (C.CostKind.kind kind.now) total best result }
-{
-    kind.less(total, best)
+    costs.passage(total?, from, to)
 }
 
 /// The better of the best so far and the total of the next mode, which loses a tie.
@@ -42,7 +40,7 @@ pub fn better<C: CostKind>(
     match best {
         None => Some(Best { total, from }),
         Some(b) => {
-            if beats(kind, total, b.total) {
+            if kind.less(total, b.total) {
                 Some(Best { total, from })
             } else {
                 best
@@ -51,12 +49,17 @@ pub fn better<C: CostKind>(
     }
 }
 
-/// The best way with the charge of the reading added.
-pub fn arrived<C: CostKind>(kind: &C, best: Option<Best>, reading: Charge) -> Option<Best>
-    ensures carried { Arrived (C.CostKind.kind kind.now) best reading result }
+/// The best way into a mode, with the reading there, if there is one.
+pub fn arrived<M: Model, C: CostKind>(
+    costs: &Costs<M, C>,
+    best: Option<Best>,
+    mode: usize,
+    reading: usize,
+) -> Option<Best>
+    ensures carried { Arrived (C.CostKind.kind costs.now.kind.now) best ((M.Model.meaning costs.now.model.now).reading mode reading) result }
     ensures same { (s : ℕ) → best_from result ≡ Some s → best_from best ≡ Some s }
 {
     let Best { total, from } = best?;
-    let total = kind.charged(total, reading)?;
+    let total = costs.reading(total, mode, reading)?;
     Some(Best { total, from })
 }

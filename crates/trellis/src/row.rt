@@ -1,157 +1,114 @@
-ghost use Rattle.std.specs.Prelude.{◌≡◌, ℕ, ◌≤◌, [], ◌∷◌, Some, option_and_then};
-ghost use Rattle.cost.specs.Kind.{carried_of};
-ghost use Rattle.viterbi.specs.Paths.{cost};
-ghost use Rattle.trellis.specs.Rows.{MODES, Into, Entered, Backed, Advances, First, Ends, Marked, AllBacked, AllThemselves, Beyond};
+ghost use Rattle.std.specs.Prelude.{◌≡◌, ℕ, ◌<◌, ◌≤◌, drop};
+ghost use Rattle.trellis.specs.Size.{MODES};
+ghost use Rattle.trellis.specs.Rows.{LeastBy, OneBy, WrittenBy, Into, WayIn, Backed, BegunBy, Filled, Ends};
 ghost use Rattle.trellis.specs.Carried.{best_total, best_from};
 
 use super::best::{Best, arrived, better, through};
 use cost::{CostKind, Total};
-use model::Model;
+use model::{Costs, Model};
 
-/// The best way into mode `t`, before the reading is charged.
-fn into<M: Model, C: CostKind>(
-    model: &M,
+/// A total for each mode that is reachable.
+pub type Row = [Option<Total>; 32];
+
+/// How many modes there are: at most 32.
+#[derive(Clone, Copy)]
+pub struct Modes {
+    pub count: usize,
+    ghost few: { count ≤ MODES },
+}
+
+/// Of the modes, the first whose total is least. `total` tells the total of a mode, if there is one.
+fn least_by<C: CostKind, F: Fn(usize) -> Option<Total>>(
     kind: &C,
-    modes: usize,
-    old: &[Option<Total>; 32],
-    t: usize,
+    modes: Modes,
+    total: F,
 ) -> Option<Best>
-    requires { modes ≤ MODES }
-    ensures least { Into (C.CostKind.kind kind.now) (M.Model.meaning model.now) modes old.now t modes result }
-    ensures backed { Backed modes old.now result }
+    requires { (s : ℕ) → s < modes.count → F.pre total s }
+    ensures least { LeastBy (C.CostKind.kind kind.now) modes.count (F.post total) result }
+    ensures one { OneBy modes.count (F.post total) result }
 {
     let mut best = None;
-    for s in 0..modes {
-        let next = through(kind, old[s], model.passage(s, t));
-        best = better(kind, best, next, s as u8);
+    for s in 0..modes.count {
+        best = better(kind, best, total(s), s as u8);
     }
     best
 }
 
+/// The best way into mode `t`, before the reading is charged.
+fn into<M: Model, C: CostKind>(
+    costs: &Costs<M, C>,
+    modes: Modes,
+    old: &Row,
+    t: usize,
+) -> Option<Best>
+    ensures least { Into (C.CostKind.kind costs.now.kind.now) (M.Model.meaning costs.now.model.now) modes.count old.now t modes.count result }
+    ensures backed { Backed modes.count old.now result }
+{
+    least_by(costs.kind, modes, |s| through(costs, old[s], s, t))
+}
+
 /// The best way into mode `t` at a reading.
-fn enter<M: Model, C: CostKind>(
-    model: &M,
-    kind: &C,
-    modes: usize,
-    old: &[Option<Total>; 32],
+pub fn enter<M: Model, C: CostKind>(
+    costs: &Costs<M, C>,
+    modes: Modes,
+    old: &Row,
     reading: usize,
     t: usize,
 ) -> Option<Best>
-    requires { modes ≤ MODES }
-    ensures entered { Entered (C.CostKind.kind kind.now) (M.Model.meaning model.now) modes old.now reading t result }
-    ensures backed { Backed modes old.now result }
+    ensures { WayIn (C.CostKind.kind costs.now.kind.now) (M.Model.meaning costs.now.model.now) modes.count old.now reading t result }
 {
-    let best = into(model, kind, modes, old, t);
-    arrived(kind, best, model.reading(t, reading))
+    let best = into(costs, modes, old, t);
+    arrived(costs, best, t, reading)
 }
 
-/// The total of mode `t` after the first reading.
-fn begin<M: Model, C: CostKind>(model: &M, kind: &C, reading: usize, t: usize) -> Option<Total>
-    ensures { result ≡ carried_of (C.CostKind.kind kind.now) (cost (C.CostKind.kind kind.now) (M.Model.meaning model.now) (reading ∷ []) (t ∷ [])) }
+/// The first reading in mode `t`, which comes from itself.
+pub fn begin<M: Model, C: CostKind>(costs: &Costs<M, C>, reading: usize, t: usize) -> Option<Best>
+    requires { t < MODES }
+    ensures { BegunBy (C.CostKind.kind costs.now.kind.now) (M.Model.meaning costs.now.model.now) reading t (best_total result) (best_from result) }
 {
-    let started = through(kind, Some(kind.zero()), model.start(t));
-    through(kind, started, model.reading(t, reading))
+    let started = costs.start(t)?;
+    let total = costs.reading(started, t, reading)?;
+    Some(Best {
+        total,
+        from: t as u8,
+    })
 }
 
-/// The total of a way, if there is one.
-fn total_of(best: Option<Best>) -> Option<Total>
-    ensures { result ≡ best_total best }
-{
-    match best {
-        Some(b) => Some(b.total),
-        None => None,
-    }
-}
-
-/// The mode that a way comes from, if there is one.
-fn from_of(best: Option<Best>) -> Option<u8>
-    ensures { result ≡ best_from best }
-{
-    match best {
-        Some(b) => Some(b.from),
-        None => None,
-    }
-}
-
-/// From the row `old`, writes the row after one more reading into `new`, and the predecessor of each mode into `from`.
+/// Writes the way into each mode, as `way` tells it: its total into `new`, and the mode that it comes from into `from`.
 /// Answers whether a mode is reachable.
-pub fn next_row<M: Model, C: CostKind>(
-    model: &M,
-    kind: &C,
-    modes: usize,
-    old: &[Option<Total>; 32],
-    reading: usize,
-    new: &mut [Option<Total>; 32],
+pub fn fill<F: Fn(usize) -> Option<Best>>(
+    modes: Modes,
+    new: &mut Row,
     from: &mut [Option<u8>; 32],
+    way: F,
 ) -> bool
-    requires { modes ≤ MODES }
-    ensures next { Advances (C.CostKind.kind kind.now) (M.Model.meaning model.now) modes old.now reading new.new from.new result }
-    ensures marked { Marked modes new.new from.new result }
-    ensures backed { AllBacked modes old.now from.new }
-    ensures beyond { Beyond modes new.new new.old }
-    ensures beyond_from { Beyond modes from.new from.old }
+    requires { (t : ℕ) → t < modes.count → F.pre way t }
+    ensures filled { Filled (WrittenBy (F.post way)) modes.count new.old new.new from.old from.new result }
+    ensures rest { drop modes.count new.new ≡ drop modes.count new.old }
 {
     let mut any = false;
-    for t in 0..modes {
-        let best = enter(model, kind, modes, old, reading, t);
-        new[t] = total_of(best);
-        from[t] = from_of(best);
+    for t in 0..modes.count {
+        let best = way(t);
+        new[t] = best.map(|b| b.total);
+        from[t] = best.map(|b| b.from);
         any |= best.is_some();
     }
     any
 }
 
-/// Writes the row after the first reading into `new`, and into `from` each reachable mode as its own predecessor.
-/// Answers whether a mode is reachable.
-pub fn first_row<M: Model, C: CostKind>(
-    model: &M,
-    kind: &C,
-    modes: usize,
-    reading: usize,
-    new: &mut [Option<Total>; 32],
-    from: &mut [Option<u8>; 32],
-) -> bool
-    requires { modes ≤ MODES }
-    ensures first { modes ≡ (M.Model.meaning model.now).modes → First (C.CostKind.kind kind.now) (M.Model.meaning model.now) reading new.new from.new result }
-    ensures marked { Marked modes new.new from.new result }
-    ensures themselves { AllThemselves modes from.new }
-    ensures beyond { Beyond modes new.new new.old }
-    ensures beyond_from { Beyond modes from.new from.old }
-{
-    let mut any = false;
-    for t in 0..modes {
-        let total = begin(model, kind, reading, t);
-        new[t] = total;
-        from[t] = mark(total, t as u8);
-        any |= total.is_some();
-    }
-    any
-}
-
-/// The mode, if it has a total.
-fn mark(total: Option<Total>, mode: u8) -> Option<u8>
-    ensures { result ≡ option_and_then (λ _. Some mode) total }
-{
-    match total {
-        Some(_) => Some(mode),
-        None => None,
-    }
-}
-
 /// The last mode of the cheapest path of the log, with its total; `None` if no mode is reachable.
-pub fn least_in<M: Model, C: CostKind>(
-    model: &M,
-    kind: &C,
-    modes: usize,
-    row: &[Option<Total>; 32],
-) -> Option<Best>
-    requires { modes ≤ MODES }
-    ensures ends { Ends (C.CostKind.kind kind.now) (M.Model.meaning model.now) modes row.now result }
-    ensures backed { Backed modes row.now result }
+pub fn least_in<M: Model, C: CostKind>(costs: &Costs<M, C>, modes: Modes, row: &Row) -> Option<Best>
+    ensures ends { Ends (C.CostKind.kind costs.now.kind.now) (M.Model.meaning costs.now.model.now) modes.count row.now result }
+    ensures backed { Backed modes.count row.now result }
 {
-    let mut best = None;
-    for s in 0..modes {
-        best = better(kind, best, row[s], s as u8);
-    }
-    best
+    least_by(costs.kind, modes, |s| row[s])
+}
+
+/// Exchanges what two rows have of the modes.
+pub fn exchange(modes: Modes, a: &mut Row, b: &mut Row)
+    requires { drop modes.count a.old ≡ drop modes.count b.old }
+    ensures first { a.new ≡ b.old }
+    ensures second { b.new ≡ a.old }
+{
+    a[..modes.count].swap_with_slice(&mut b[..modes.count]);
 }

@@ -1,17 +1,10 @@
-use Rattle.std.proofs.Common.{sym, ap, ◌∙◌, subst}
-use Rattle.std.proofs.lemmas.Option.{none-some}
-use Rattle.trellis.specs.Carried.{Arrived, best_from}
+use Rattle.std.proofs.Common.{sym, subst}
+use Rattle.trellis.specs.Carried.{Arrived}
 use Rattle.trellis.proofs.Ways.{arrived}
 use Rattle.trellis.proofs.best.arrived.Goals as goal
 
-pub returns-in_err-total-2 : goal.returns-in_err-total-2
-returns-in_err-total-2 g c =
-    let K = g.C.CostKind.kind c.args.kind.now in
-    let none = c.from_residual-in_err-total-2.ensures in
-    record {
-      carried = subst (Arrived K c.args.best c.args.reading) (sym none) (arrived K c.in_ok-total.field-0 _ _ _ c.in_ok-total.was c.in_err-total-2.ensures);
-      same = λ s e. absurd (none-some s (sym (ap best_from none) ∙ e));
-    }
+pub returns-in_err-total-2-clause-carried : goal.returns-in_err-total-2-clause-carried
+returns-in_err-total-2-clause-carried g c = subst (Arrived _ c.args.best _) (sym c.from_residual-in_err-total-2.ensures) (arrived _ c.in_ok-total.field-0 _ _ _ c.in_ok-total.was c.in_err-total-2.ensures)
 
-pub returns : goal.returns
-returns g c = record { carried = arrived _ _ _ _ _ c.in_ok-total.was c.in_ok-total-2.ensures; same = λ s e. ap best_from c.in_ok-total.was ∙ e }
+pub returns-clause-carried : goal.returns-clause-carried
+returns-clause-carried g c = arrived _ _ _ _ _ c.in_ok-total.was c.in_ok-total-2.ensures

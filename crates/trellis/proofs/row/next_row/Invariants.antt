@@ -1,6 +1,0 @@
-use Rattle.std.proofs.Common.{◌≡◌, length}
-use Rattle.trellis.specs.Rows.{MODES, Filled, EnteredBy}
-use Rattle.trellis.proofs.row.next_row.Given as goal
-
-abbrev pub invariant-loop-t : goal.invariant-loop-t
-invariant-loop-t g l = (length l.new ≡ MODES) × (length l.from ≡ MODES) × Filled (EnteredBy (g.C.CostKind.kind l.kind) (g.M.Model.meaning l.model) l.modes l.old l.reading) l.t l.initial.new l.new l.initial.from l.from l.any
