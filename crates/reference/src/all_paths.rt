@@ -3,14 +3,13 @@ ghost use Rattle.std.specs.Prelude.{◌≡◌, ◌≤◌, length, IfSome, IfOk, 
 
 use super::{Decoded, Progress};
 use cost::{CostKind, Total};
-use model::Model;
+use model::{Costs, Model};
 use std::alloc::{AllocError, Global};
 use std::collections::BTreeSet;
 
 // What a path costs, or `None` where one of its charges is barred or it does not end in the mode asked for.
 fn cost_of<M: Model, C: CostKind>(
-    model: &M,
-    kind: &C,
+    costs: &Costs<M, C>,
     readings: &[u8],
     path: &[usize],
     end: Option<usize>,
@@ -18,16 +17,15 @@ fn cost_of<M: Model, C: CostKind>(
     if end.is_some() && path.last().copied() != end {
         return None;
     }
-    let mut total = kind.zero();
+    let mut total = costs.kind.zero();
     let mut before: Option<usize> = None;
-    for (value, mode) in readings.iter().zip(path.iter()) {
-        let charge = match before {
-            None => model.start(*mode),
-            Some(from) => model.passage(from, *mode),
+    for (&value, &mode) in readings.iter().zip(path.iter()) {
+        let moved = match before {
+            None => costs.start(mode)?,
+            Some(from) => costs.passage(total, from, mode)?,
         };
-        total = kind.charged(total, charge)?;
-        total = kind.charged(total, model.reading(*mode, usize::from(*value)))?;
-        before = Some(*mode);
+        total = costs.reading(moved, mode, usize::from(value))?;
+        before = Some(mode);
     }
     Some(total)
 }
@@ -45,34 +43,30 @@ fn advance(path: &mut [usize], modes: usize) {
 
 // How many paths there are, or the largest number.
 fn count(readings: &[u8], modes: usize) -> usize {
-    let mut paths: usize = 1;
-    for _ in readings {
-        paths = paths.saturating_mul(modes);
-    }
-    paths
+    readings
+        .iter()
+        .fold(1usize, |paths, _| paths.saturating_mul(modes))
 }
 
 // The cheapest path, to the mode `end` if one is asked for. Of equally cheap paths the first one tried is kept: it has the
 // lower mode at the latest reading where they differ.
 fn cheapest<M: Model, C: CostKind>(
     heap: Global,
-    model: &M,
-    kind: &C,
+    costs: &Costs<M, C>,
     readings: &[u8],
     end: Option<usize>,
 ) -> Result<Option<Decoded>, AllocError>
     ensures { IfOk result (λ o. IfSome o (λ d. vec_len d.modes ≡ length readings.now)) }
 {
-    let modes = model.modes();
+    let modes = costs.model.modes();
     let mut path = vec![in heap; 0; readings.len()]?;
     let mut best: Option<Decoded> = None;
     for _ in 0..count(readings, modes) {
-        if let Some(total) = cost_of(model, kind, readings, &path, end) {
-            let better = match &best {
-                None => true,
-                Some(kept) => kind.less(total, kept.total),
-            };
-            if better {
+        if let Some(total) = cost_of(costs, readings, &path, end) {
+            if best
+                .as_ref()
+                .is_none_or(|kept| costs.kind.less(total, kept.total))
+            {
                 let modes = path.clone()?;
                 best = Some(Decoded { modes, total });
             }
@@ -85,23 +79,17 @@ fn cheapest<M: Model, C: CostKind>(
 /// The cheapest path of the log, or `None` where no path is open.
 pub fn decode<M: Model, C: CostKind>(
     heap: Global,
-    model: &M,
-    kind: &C,
+    costs: &Costs<M, C>,
     readings: &[u8],
 ) -> Result<Option<Decoded>, AllocError>
     ensures { IfOk result (λ o. IfSome o (λ d. vec_len d.modes ≡ length readings.now)) }
 {
-    cheapest(heap, model, kind, readings, None)
+    cheapest(heap, costs, readings, None)
 }
 
 // How many readings two paths share from the first on.
 fn shared(a: &[usize], b: &[usize]) -> usize {
-    for (place, (x, y)) in a.iter().zip(b.iter()).enumerate() {
-        if *x != *y {
-            return place;
-        }
-    }
-    a.len().min(b.len())
+    a.iter().zip(b.iter()).take_while(|(x, y)| *x == *y).count()
 }
 
 // How many of the first readings all paths share.
@@ -111,23 +99,19 @@ fn common(paths: &[Vec<usize>], readings: usize) -> usize
     let Some(first) = paths.first() else {
         return readings;
     };
-    let mut least = readings;
-    for path in paths {
-        least = least.min(shared(first, path));
-    }
-    least
+    let fewest = paths.iter().map(|path| shared(first, path)).min();
+    fewest.unwrap_or(readings).min(readings)
 }
 
 // The cheapest paths to all reachable modes.
 fn paths<M: Model, C: CostKind>(
     heap: Global,
-    model: &M,
-    kind: &C,
+    costs: &Costs<M, C>,
     readings: &[u8],
 ) -> Result<Vec<Vec<usize>>, AllocError> {
     let mut paths = Vec::new(heap);
-    for mode in 0..model.modes() {
-        if let Some(found) = cheapest(heap, model, kind, readings, Some(mode))? {
+    for mode in 0..costs.model.modes() {
+        if let Some(found) = cheapest(heap, costs, readings, Some(mode))? {
             paths.push(found.modes)?;
         }
     }
@@ -138,13 +122,12 @@ fn paths<M: Model, C: CostKind>(
 /// live, which are the pairs of a later reading and a mode on one of these paths.
 pub fn progress<M: Model, C: CostKind>(
     heap: Global,
-    model: &M,
-    kind: &C,
+    costs: &Costs<M, C>,
     readings: &[u8],
 ) -> Result<Progress, AllocError>
     ensures { IfOk result (λ p. p.decided ≤ length readings.now) }
 {
-    let paths = paths(heap, model, kind, readings)?;
+    let paths = paths(heap, costs, readings)?;
     let decided = common(&paths, readings.len());
     let mut cells = BTreeSet::new(heap);
     for path in paths.iter() {

@@ -3,14 +3,14 @@ ghost use Rattle.std.specs.Prelude.{◌≡◌, ◌+◌, ◌≤◌, IfOk, if◌th
 
 use super::{Decoded, Progress};
 use cost::{CostKind, Total};
-use model::Model;
+use model::{Costs, Model};
 use std::alloc::{AllocError, Global};
 
-// The cheapest way to a mode: its total, and the mode at the reading before.
+// The cheapest way to a mode: its total, and the mode that it comes from, which the first reading has not.
 #[derive(Clone, Copy)]
 struct Arrival {
     total: Total,
-    before: usize,
+    before: Option<usize>,
 }
 
 /// For every accepted reading and every mode the cheapest way to it, or `None` where the mode is not reachable.
@@ -33,81 +33,66 @@ impl FullTable {
         }
     }
 
-    fn at(&self, reading: usize, mode: usize) -> Option<Arrival> {
-        let row = self.rows.get(reading)?;
-        *row.get(mode)?
-    }
-
-    // The cheapest way to a mode at the first reading.
+    // The way to a mode at the first reading.
     fn first<M: Model, C: CostKind>(
-        &self,
-        model: &M,
-        kind: &C,
+        costs: &Costs<M, C>,
         mode: usize,
         value: usize,
     ) -> Option<Arrival> {
-        let started = kind.charged(kind.zero(), model.start(mode))?;
-        let total = kind.charged(started, model.reading(mode, value))?;
-        Some(Arrival { total, before: 0 })
+        let started = costs.start(mode)?;
+        let total = costs.reading(started, mode, value)?;
+        Some(Arrival {
+            total,
+            before: None,
+        })
     }
 
-    // The way to a mode through the mode `before` at the last reading.
+    // The way to a mode through the mode `before` of the last row.
     fn through<M: Model, C: CostKind>(
-        &self,
-        model: &M,
-        kind: &C,
+        last: &[Option<Arrival>],
+        costs: &Costs<M, C>,
         before: usize,
         mode: usize,
         value: usize,
     ) -> Option<Arrival> {
-        let last = self.at(self.rows.len().saturating_sub(1), before)?;
-        let passed = kind.charged(last.total, model.passage(before, mode))?;
-        let total = kind.charged(passed, model.reading(mode, value))?;
-        Some(Arrival { total, before })
+        let way = last.get(before).copied().flatten()?;
+        let passed = costs.passage(way.total, before, mode)?;
+        let total = costs.reading(passed, mode, value)?;
+        Some(Arrival {
+            total,
+            before: Some(before),
+        })
     }
 
     // The cheapest way to a mode at the next reading; of equal ones the one through the lowest mode.
-    fn next<M: Model, C: CostKind>(
+    fn arrival<M: Model, C: CostKind>(
         &self,
-        model: &M,
-        kind: &C,
+        costs: &Costs<M, C>,
         mode: usize,
         value: usize,
     ) -> Option<Arrival> {
-        let mut best: Option<Arrival> = None;
-        let mut least: Option<Total> = None;
-        for before in 0..self.modes {
-            if let Some(way) = self.through(model, kind, before, mode, value) {
-                if improves(kind, way.total, least) {
-                    least = Some(way.total);
-                    best = Some(way);
-                }
-            }
-        }
-        best
+        let Some(last) = self.rows.last() else {
+            return FullTable::first(costs, mode, value);
+        };
+        (0..self.modes)
+            .filter_map(|before| FullTable::through(last, costs, before, mode, value))
+            .reduce(|best, way| cheaper(costs.kind, best, way))
     }
 
     /// Takes one more reading, or refuses it with `false` where no mode would be reachable.
     pub fn push<M: Model, C: CostKind>(
         &mut self,
-        model: &M,
-        kind: &C,
+        costs: &Costs<M, C>,
         value: usize,
     ) -> Result<bool, AllocError>
         ensures modes { self.new.modes ≡ self.old.modes }
         ensures rows { IfOk result (λ b. vec_len self.new.rows ≡ vec_len self.old.rows + (if b then 1 else 0)) }
     {
         let mut row = Vec::new(self.heap);
-        let mut reachable = false;
         for mode in 0..self.modes {
-            let arrival = if self.rows.is_empty() {
-                self.first(model, kind, mode, value)
-            } else {
-                self.next(model, kind, mode, value)
-            };
-            reachable = reachable || arrival.is_some();
-            row.push(arrival)?;
+            row.push(self.arrival(costs, mode, value))?;
         }
+        let reachable = row.iter().any(|arrival| arrival.is_some());
         if reachable {
             self.rows.push(row)?;
         }
@@ -120,11 +105,10 @@ impl FullTable {
     {
         let mut path = Vec::new(self.heap);
         let mut mode = mode;
-        for reading in (0..self.rows.len()).rev() {
+        for row in self.rows.iter().rev() {
             path.push(mode)?;
-            if let Some(arrival) = self.at(reading, mode) {
-                mode = arrival.before;
-            }
+            let way = row.get(mode).copied().flatten();
+            mode = way.and_then(|way| way.before).unwrap_or(mode);
         }
         path.reverse();
         Ok(path)
@@ -143,30 +127,27 @@ impl FullTable {
         Ok(paths)
     }
 
-    // The reachable mode of least total, of equal ones the lowest, and that total.
-    fn best_end<C: CostKind>(&self, kind: &C) -> Option<(usize, Total)> {
-        let mut best: Option<(usize, Total)> = None;
-        let mut least: Option<Total> = None;
-        for (mode, arrival) in self.rows.last()?.iter().enumerate() {
-            if let Some(way) = *arrival {
-                if improves(kind, way.total, least) {
-                    least = Some(way.total);
-                    best = Some((mode, way.total));
-                }
-            }
-        }
-        best
+    // The end of the cheapest path, as a way from its last mode; of equal ones from the lowest.
+    fn end<C: CostKind>(&self, kind: &C) -> Option<Arrival> {
+        self.rows
+            .last()?
+            .iter()
+            .enumerate()
+            .filter_map(|(mode, arrival)| arrival.map(|way| Arrival {
+                total: way.total,
+                before: Some(mode),
+            }))
+            .reduce(|best, way| cheaper(kind, best, way))
     }
 
     /// The cheapest path of the log, with its total.
     pub fn decode<C: CostKind>(&self, kind: &C) -> Result<Decoded, AllocError>
         ensures { IfOk result (λ d. vec_len d.modes ≡ vec_len self.now.rows) }
     {
-        let (end, total) = match self.best_end(kind) {
-            None => (0, kind.zero()),
-            Some(best) => best,
-        };
-        let modes = self.path(end)?;
+        let end = self.end(kind);
+        let last = end.and_then(|way| way.before).unwrap_or(0);
+        let total = end.map_or_else(|| kind.zero(), |way| way.total);
+        let modes = self.path(last)?;
         Ok(Decoded { modes, total })
     }
 
@@ -175,45 +156,31 @@ impl FullTable {
         ensures { IfOk result (λ p. p.decided ≤ vec_len self.now.rows) }
     {
         let paths = self.paths()?;
-        let mut decided: usize = 0;
-        let mut live: usize = 0;
-        for reading in 0..self.rows.len() {
-            let cells = cells_at(&paths, self.modes, reading);
-            if live == 0 && cells == 1 {
-                decided += 1;
-            } else {
-                live = live.saturating_add(cells);
-            }
-        }
+        let decided = self
+            .rows
+            .iter()
+            .enumerate()
+            .take_while(|(reading, _)| cells_at(&paths, self.modes, *reading) == 1)
+            .count();
+        let live = (decided..self.rows.len())
+            .map(|reading| cells_at(&paths, self.modes, reading))
+            .fold(0usize, |live, cells| live.saturating_add(cells));
         Ok(Progress { decided, live })
     }
 }
 
-// Whether a total is less than the least so far; the first one always is.
-fn improves<C: CostKind>(kind: &C, total: Total, least: Option<Total>) -> bool {
-    match least {
-        None => true,
-        Some(kept) => kind.less(total, kept),
+// The way of less total; of equal ones the first.
+fn cheaper<C: CostKind>(kind: &C, best: Arrival, way: Arrival) -> Arrival {
+    if kind.less(way.total, best.total) {
+        way
+    } else {
+        best
     }
-}
-
-// Whether one of the paths has this mode at this reading.
-fn passes(paths: &[Vec<usize>], reading: usize, mode: usize) -> bool {
-    for path in paths {
-        if path.get(reading).copied() == Some(mode) {
-            return true;
-        }
-    }
-    false
 }
 
 // How many modes the paths have at this reading.
 fn cells_at(paths: &[Vec<usize>], modes: usize, reading: usize) -> usize {
-    let mut cells: usize = 0;
-    for mode in 0..modes {
-        if passes(paths, reading, mode) {
-            cells = cells.saturating_add(1);
-        }
-    }
-    cells
+    (0..modes)
+        .filter(|mode| paths.iter().any(|path| path.get(reading) == Some(mode)))
+        .count()
 }

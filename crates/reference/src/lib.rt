@@ -1,4 +1,5 @@
-//! Two slow decoders, written straight from the rules, to compare the estimator's answers with.
+//! Two slow decoders, written straight from the rules, to compare the estimator's answers with. They share the kinds and
+//! the models, and no comparison, path or count.
 #![tactic(auto)]
 
 pub mod all_paths;
@@ -7,14 +8,14 @@ pub mod full_table;
 use cost::Total;
 
 /// The cheapest path of a log, one mode for each reading, and its total.
-#[derive(Drop)]
+#[derive(PartialEq, Eq, Debug, Drop)]
 pub struct Decoded {
     pub modes: Vec<usize>,
     pub total: Total,
 }
 
 /// How far a running log is decided: the number of decided readings, and of live cells.
-#[derive(Clone, Copy)]
+#[derive(Clone, Copy, PartialEq, Eq, Debug)]
 pub struct Progress {
     pub decided: usize,
     pub live: usize,
