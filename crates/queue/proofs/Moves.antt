@@ -1,30 +1,41 @@
 -- Puts and takes one after another, for a loop that moves elements to or from a queue.
-use Rattle.std.proofs.Common.{◌≡◌, ℕ, ◌+◌, ◌-◌, ◌≤◌, List, [], ◌∷◌, ◌++◌, length, set, Some, None, Option, sym, refl, ap, ◌∙◌, subst, arith, MatchOption}
+use Rattle.std.proofs.Common.{◌≡◌, ℕ, ◌+◌, ◌-◌, ◌<◌, ◌≤◌, List, [], ◌∷◌, ◌++◌, length, drop, set, Some, None, Option, sym, refl, ap, ◌∙◌, subst, arith, MatchOption}
 use Rattle.std.proofs.lemmas.List.{append_assoc, append-nil, length-append, length-set}
-use Rattle.std.proofs.lemmas.Bool.Decides.{nat_tests}
-use Rattle.queue.specs.Contents.{onward, stored, start, contents, place, capacity, memory, Appended, Removed}
+use Rattle.queue.specs.Contents.{onward, stored, contents, place, capacity, memory, Appended, Removed}
 use Rattle.queue.specs.declared.Queue.{Queue}
-use Rattle.queue.proofs.Ring.{length-ring}
+use Rattle.queue.proofs.Ring.{length-ring, ring_put, ring_take, onward_within, onward_none, onward_more}
 
--- A queue holds no more than it has room for.
+-- A queue holds its len elements, and no more than it has room for.
+length-contents : {X : Type 0} (q : Queue X) → length (contents q) ≡ q.len
+length-contents q = length-ring q.slots.now q.head q.len q.few
+
 pub held : {X : Type 0} (q : Queue X) → length (contents q) ≤ capacity q
-unfolding contents
-held q = omega (arith, length-ring q.slots.now q.head q.len)
+held q = omega (arith, length-contents q, q.few)
 
 -- The place where the next element is written is one of the slots, or 0 where there are none.
-onward_within : (cap p n : ℕ) → p ≤ cap - 1 → n ≤ cap → onward cap p n ≤ cap - 1
-onward_within cap p n l m = grind (arith, nat_tests)
-
 place_within : {X : Type 0} (q : Queue X) → place q ≤ capacity q - 1
-unfolding place
-place_within q = onward_within (capacity q) (start q.slots.now q.head) (length (contents q)) (grind (arith, nat_tests)) (held q)
+place_within q = onward_within (capacity q) q.head q.len q.inside q.few
 
--- No step, and two walks in one.
-onward_none : (cap p : ℕ) → p ≤ cap - 1 → onward cap p 0 ≡ p
-onward_none cap p l = grind (arith, nat_tests)
+-- One element put, and one taken.
+pub appended_one : {X : Type 0} (q q' : Queue X) (x : X) → (length (contents q) ≡ capacity q → ⊥) → q'.slots.now ≡ set q.slots.now (place q) x → q'.slots.ghost_name ≡ q.slots.ghost_name → q'.head ≡ q.head → q'.len ≡ q.len + 1 → Appended q (x ∷ []) q'
+appended_one q q' x f s l h n =
+    let room : q.len < capacity q = omega (arith, q.few, length-contents q) in
+    record {
+      items = rw (s, h, n) (ring_put q.slots.now q.head q.len x q.inside room);
+      slots = s;
+      next = rw (s, h, n, length-set) (sym (onward_more (capacity q) q.head q.len 1 q.inside (omega arith)));
+      lent = l;
+    }
 
-onward_more : (cap p m n : ℕ) → p ≤ cap - 1 → m + n ≤ cap → onward cap (onward cap p m) n ≡ onward cap p (m + n)
-onward_more cap p m n l k = grind (arith, nat_tests)
+pub removed_one : {X : Type 0} (q q' : Queue X) (x : X) → contents q ≡ x ∷ drop 1 (contents q) → q'.slots ≡ q.slots → q'.head ≡ onward (capacity q) q.head 1 → q'.len ≡ q.len - 1 → Removed q (x ∷ []) q'
+removed_one q q' x e s h n =
+    let some : 0 < q.len = omega (arith, ap length e, length-contents q) in
+    record {
+      items = rw (s, h, n) (cc (e, ring_take q.slots.now q.head q.len x some q.few q.inside));
+      slots = ap (λ b. b.now) s;
+      next = rw (s, h, n) (onward_more (capacity q) q.head 1 (q.len - 1) q.inside (omega (arith, q.few)) ∙ ap (onward (capacity q) q.head) (omega arith));
+      lent = ap (λ b. b.ghost_name) s;
+    }
 
 length-stored : {X : Type 0} (xs : List X) (p : ℕ) (ys : List X) → length (stored xs p ys) ≡ length xs
 length-stored xs p [] = refl
