@@ -4,11 +4,7 @@ use Rattle.queue.specs.declared.Queue.{Queue}
 use Rattle.queue.specs.Contents.{contents, capacity, Appended, Removed}
 use Rattle.segment.specs.declared.Segment.{Segment}
 use Rattle.segment.specs.declared.Segmenter.{Segmenter}
-use Rattle.segment.specs.Segments.{SegmentsOf, TheSegments}
-
--- The most modes that a segmenter takes before its end call.
-abbrev pub limit : ℕ
-limit = 1000000
+use Rattle.segment.specs.Segments.{limit, SegmentsOf, TheSegments}
 
 -- The segment in hand, if any, as a list.
 abbrev pub in_hand : Option Segment → List Segment
