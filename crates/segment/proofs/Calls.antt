@@ -8,8 +8,8 @@ use Rattle.queue.specs.declared.Queue.{Queue}
 use Rattle.segment.specs.declared.Segment.{Segment}
 use Rattle.segment.specs.declared.Segmenter.{Segmenter}
 use Rattle.segment.specs.Segments.{limit}
-use Rattle.segment.specs.Segmenter.{in_hand, Stands, Grown, Blocked, CanTake, Greatest, Advanced, Ended, EndBlocked}
-use Rattle.segment.proofs.Segments.{alone, unique, goes_on, segments_none, segments_other}
+use Rattle.segment.specs.Segmenter.{in_hand, Stands, Grown, Blocked, CanTake, Greatest, Advanced, Ended}
+use Rattle.segment.proofs.Segments.{alone, unique, goes_on, segments_other}
 use Rattle.segment.proofs.Steps.{with_hand, grown_none, grown_more}
 
 length-hand : (o : Option Segment) → length (in_hand o) ≤ 1
@@ -109,11 +109,3 @@ takes_all {s} {s'} {modes} {modes'} {q} {q'} {count} {taken} {put} b a fits few 
 
 pub ended : (s s' : Segmenter) (q q' : Queue Segment) → Appended q (in_hand s.hand) q' → Stands s' [] [] → Ended s q s' q'
 ended s s' q q' a n = record { last = in_hand s.hand; appended = a; whole = λ taken put b. b.segments; new = n }
-
-pub end_blocked : (s : Segmenter) (q : Queue Segment) (h : Segment) → s.hand ≡ Some h → length (contents q) ≡ capacity q → EndBlocked s q
-end_blocked s q h e f = record {
-  held = λ taken put b none.
-      let same : [] ≡ put ++ h ∷ [] = (unique (with_hand s h taken put b e)).only [] (rw none segments_none) in
-      omega (arith, ap length same, length_push put h);
-  full = f;
-}
