@@ -1,5 +1,7 @@
 -- What the calls of a segmenter come to.
-use Rattle.std.proofs.Common.{◌≡◌, ℕ, zero, suc, ◌+◌, ◌-◌, ◌<◌, ◌≤◌, ◌⊎◌, List, [], ◌∷◌, ◌++◌, length, take, Some, None, Option, refl, ap, ⊎_elim, arith}
+use Rattle.std.proofs.Common.{◌≡◌, ℕ, ◌+◌, ◌-◌, ◌<◌, ◌≤◌, ◌⊎◌, List, [], ◌∷◌, ◌++◌, length, take, Some, None, Option, refl, ap, ◌∙◌, ⊎_elim, arith}
+use Rattle.std.specs.Option.{option_to_list}
+use Rattle.std.proofs.Math.Seq.{take-append-add}
 use Rattle.std.proofs.lemmas.List.{append_assoc, length-append, length_push, nil_from_length, take_all, take_at}
 use Rattle.std.proofs.lemmas.Bool.{cases_lt}
 use Rattle.queue.proofs.Moves.{appended_capacity, appended_length, appended_fits, removed_none, removed_more}
@@ -8,11 +10,11 @@ use Rattle.queue.specs.declared.Queue.{Queue}
 use Rattle.segment.specs.declared.Segment.{Segment}
 use Rattle.segment.specs.declared.Segmenter.{Segmenter}
 use Rattle.segment.specs.Segments.{limit}
-use Rattle.segment.specs.Segmenter.{in_hand, Stands, Grown, Blocked, CanTake, Greatest, Advanced, Ended}
+use Rattle.segment.specs.Segmenter.{Stands, Grown, Blocked, CanTake, Greatest, Advanced, Ended}
 use Rattle.segment.proofs.Segments.{alone, unique, goes_on, segments_other}
 use Rattle.segment.proofs.Steps.{with_hand, grown_none, grown_more}
 
-length-hand : (o : Option Segment) → length (in_hand o) ≤ 1
+length-hand : (o : Option Segment) → length (option_to_list o) ≤ 1
 length-hand None = omega arith
 length-hand (Some s) = omega arith
 
@@ -38,12 +40,6 @@ moving_more m a r g = record {
 abbrev pub Stopped : Segmenter → Queue ℕ → Queue Segment → Type 0
 Stopped s modes q = (contents modes ≡ []) ⊎ (limit ≤ s.taken) ⊎ ((m : ℕ) × (rest : List ℕ) × (contents modes ≡ m ∷ rest) × Blocked s m q)
 
--- What is taken beyond xs begins with the next element.
-take_past : (xs : List ℕ) (m : ℕ) (ys : List ℕ) (k : ℕ) → length xs < k → (ns : List ℕ) × (take k (xs ++ m ∷ ys) ≡ (xs ++ m ∷ []) ++ ns)
-take_past xs m ys zero l = absurd (omega arith)
-take_past [] m ys (suc k) l = (take k ys, refl)
-take_past (x ∷ xs) m ys (suc k) l = let rest = take_past xs m ys k (omega arith) in (rest.0, ap (λ zs. x ∷ zs) rest.1)
-
 module _ (s s' : Segmenter) (modes modes' : Queue ℕ) (q q' : Queue Segment) (count : ℕ) (a : Moving s modes q count s' modes' q') (taken : List ℕ) (put : List Segment) (b : Stands s taken put) where
   -- The modes moved can be taken.
   can_take : CanTake taken put (contents modes) (capacity q - length (contents q)) count
@@ -54,9 +50,9 @@ module _ (s s' : Segmenter) (modes modes' : Queue ℕ) (q q' : Queue Segment) (c
       record {
         there = omega (arith, a.counted, ap length a.removed.items, length-append a.moved (contents modes'));
         few = omega (arith, a.counted, b'.few, length-append taken a.moved);
-        segments = all ++ in_hand s'.hand;
+        segments = all ++ option_to_list s'.hand;
         are = rw (a.counted, front) b'.segments.are;
-        fit = omega (arith, length-append all (in_hand s'.hand), length-append put a.grown.closed, length-hand s'.hand, appended_fits a.grown.appended);
+        fit = omega (arith, length-append all (option_to_list s'.hand), length-append put a.grown.closed, length-hand s'.hand, appended_fits a.grown.appended);
       }
 
   -- The next mode cannot, where it is blocked.
@@ -66,9 +62,11 @@ module _ (s s' : Segmenter) (modes modes' : Queue ℕ) (q q' : Queue Segment) (c
       let all = put ++ a.grown.closed in
       let before = taken ++ a.moved in
       let t = alone m (length before + 1) in
-      let past = take_past a.moved m rest k (omega (arith, a.counted)) in
-      let same : taken ++ take k (contents modes) ≡ (before ++ m ∷ []) ++ past.0 = rw (a.removed.items, e, past.1) (simp append_assoc) in
-      let on = goes_on past.0 (before ++ m ∷ []) ((all ++ h ∷ []) ++ t ∷ []) (segments_other all h m (with_hand s' h before all (a.grown.stands taken put b) w.held) w.other) in
+      let past = take (k - count - 1) rest in
+      let all_taken : k ≡ length (a.moved ++ m ∷ []) + (k - count - 1) = omega (arith, a.counted, length_push a.moved m) in
+      let front : take k (contents modes) ≡ (a.moved ++ m ∷ []) ++ past = rw (a.removed.items, e, ← append_assoc a.moved (m ∷ []) rest) (ap (λ i. take i ((a.moved ++ m ∷ []) ++ rest)) all_taken ∙ take-append-add (a.moved ++ m ∷ []) rest (k - count - 1)) in
+      let same : taken ++ take k (contents modes) ≡ (before ++ m ∷ []) ++ past = rw front (simp append_assoc) in
+      let on = goes_on past (before ++ m ∷ []) ((all ++ h ∷ []) ++ t ∷ []) (segments_other all h m (with_hand s' h before all (a.grown.stands taken put b) w.held) w.other) in
       let is : c.segments ≡ on.0 = (unique on.1).only c.segments (rw same at c.are) in
       omega (arith, c.fit, ap length is, on.2, length_push (all ++ h ∷ []) t, length_push all h, length-append put a.grown.closed, w.full, appended_length a.grown.appended, appended_capacity a.grown.appended)
 
@@ -95,17 +93,17 @@ advanced {s} {s'} {modes} {modes'} {q} {q'} {count} a stopped = record {
 pub takes_all : {s s' : Segmenter} {modes modes' : Queue ℕ} {q q' : Queue Segment} {count : ℕ} {taken : List ℕ} {put : List Segment} → Stands s taken put → Advanced s modes q count s' modes' q' → length (contents q) + length (contents modes) ≤ capacity q → length taken + length (contents modes) ≤ limit → contents modes' ≡ []
 takes_all {s} {s'} {modes} {modes'} {q} {q'} {count} {taken} {put} b a fits few =
     let n = length (contents modes) in
-    let long = goes_on (contents modes) taken (put ++ in_hand s.hand) b.segments.are in
+    let long = goes_on (contents modes) taken (put ++ option_to_list s.hand) b.segments.are in
     let can : CanTake taken put (contents modes) (capacity q - length (contents q)) n = record {
       there = omega arith;
       few = few;
       segments = long.0;
       are = rw (take_all n (contents modes) (omega arith)) long.1;
-      fit = omega (arith, long.3, length-append put (in_hand s.hand), length-hand s.hand);
+      fit = omega (arith, long.3, length-append put (option_to_list s.hand), length-hand s.hand);
     } in
     nil_from_length (contents modes') (omega (arith, (a.most taken put b).above n can, a.counted, ap length a.removed.items, length-append a.moved (contents modes')))
 
 -- The end call.
 
-pub ended : (s s' : Segmenter) (q q' : Queue Segment) → Appended q (in_hand s.hand) q' → Stands s' [] [] → Ended s q s' q'
-ended s s' q q' a n = record { last = in_hand s.hand; appended = a; whole = λ taken put b. b.segments; new = n }
+pub ended : (s s' : Segmenter) (q q' : Queue Segment) → Appended q (option_to_list s.hand) q' → Stands s' [] [] → Ended s q s' q'
+ended s s' q q' a n = record { last = option_to_list s.hand; appended = a; whole = λ taken put b. b.segments; new = n }

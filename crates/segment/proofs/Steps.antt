@@ -1,5 +1,6 @@
 -- What modes do to a segmenter, one after another.
 use Rattle.std.proofs.Common.{◌≡◌, ℕ, ◌+◌, List, [], ◌∷◌, ◌++◌, length, Some, None, sym, ap, ◌∙◌, subst, arith}
+use Rattle.std.specs.Option.{option_to_list}
 use Rattle.std.proofs.lemmas.List.{append_assoc, append-nil, length-append, length_push}
 use Rattle.queue.proofs.Moves.{appended_none, appended_more}
 use Rattle.queue.specs.Contents.{Appended}
@@ -7,7 +8,7 @@ use Rattle.queue.specs.declared.Queue.{Queue}
 use Rattle.segment.specs.declared.Segment.{Segment}
 use Rattle.segment.specs.declared.Segmenter.{Segmenter}
 use Rattle.segment.specs.Segments.{SegmentsOf}
-use Rattle.segment.specs.Segmenter.{in_hand, Stands, Grown}
+use Rattle.segment.specs.Segmenter.{Stands, Grown}
 use Rattle.segment.proofs.Segments.{alone, longer, unique, segments_none, segments_first, segments_equal, segments_other}
 
 -- With a segment in hand, the segments are those put and that one.
@@ -18,7 +19,7 @@ with_hand s h taken put b e = rw e at b.segments.are
 without_hand : (s : Segmenter) (taken : List ℕ) (put : List Segment) → Stands s taken put → s.hand ≡ None → (taken ≡ []) × (put ≡ [])
 without_hand s taken put b e =
     let nil = b.none e in
-    let nothing : put ++ in_hand s.hand ≡ [] = sym (b.segments.only [] (rw nil segments_none)) in
+    let nothing : put ++ option_to_list s.hand ≡ [] = sym (b.segments.only [] (rw nil segments_none)) in
     (nil, sym (append-nil put) ∙ (rw e at nothing))
 
 -- One mode taken, and the segment t in hand then.
