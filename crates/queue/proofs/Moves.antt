@@ -1,41 +1,52 @@
 -- Puts and takes one after another, for a loop that moves elements to or from a queue.
-use Rattle.std.proofs.Common.{◌≡◌, ℕ, ◌+◌, ◌-◌, ◌≤◌, List, [], ◌∷◌, ◌++◌, length, set, Some, None, Option, sym, refl, ap, ◌∙◌, subst, arith, MatchOption}
+use Rattle.std.proofs.Common.{◌≡◌, ℕ, ◌+◌, ◌-◌, ◌<◌, ◌≤◌, List, [], ◌∷◌, ◌++◌, length, drop, set, Some, None, Option, sym, refl, ap, ◌∙◌, arith, MatchOption}
 use Rattle.std.proofs.lemmas.List.{append_assoc, append-nil, length-append, length-set}
-use Rattle.std.proofs.lemmas.Bool.Decides.{nat_tests}
-use Rattle.queue.specs.Contents.{onward, stored, start, contents, place, capacity, memory, Appended, Removed}
+use Rattle.queue.specs.Contents.{onward, stored, contents, place, capacity, memory, Appended, Removed}
 use Rattle.queue.specs.declared.Queue.{Queue}
-use Rattle.queue.proofs.Ring.{length-ring}
+use Rattle.queue.proofs.Ring.{length-ring, ring_put, ring_take, onward_within, onward_none, onward_more}
 
--- A queue holds no more than it has room for.
+-- A queue holds its len elements, and no more than it has room for.
+length-contents : {X : Type 0} (q : Queue X) → length (contents q) ≡ q.len
+length-contents q = length-ring q.slots.now q.head q.len q.few
+
 pub held : {X : Type 0} (q : Queue X) → length (contents q) ≤ capacity q
-unfolding contents
-held q = omega (arith, length-ring q.slots.now q.head q.len)
+held q = omega (arith, length-contents q, q.few)
 
 -- The place where the next element is written is one of the slots, or 0 where there are none.
-onward_within : (cap p n : ℕ) → p ≤ cap - 1 → n ≤ cap → onward cap p n ≤ cap - 1
-onward_within cap p n l m = grind (arith, nat_tests)
-
 place_within : {X : Type 0} (q : Queue X) → place q ≤ capacity q - 1
-unfolding place
-place_within q = onward_within (capacity q) (start q.slots.now q.head) (length (contents q)) (grind (arith, nat_tests)) (held q)
+place_within q = onward_within (capacity q) q.head q.len q.inside q.few
 
--- No step, and two walks in one.
-onward_none : (cap p : ℕ) → p ≤ cap - 1 → onward cap p 0 ≡ p
-onward_none cap p l = grind (arith, nat_tests)
+-- One element put, and one taken.
+pub appended_one : {X : Type 0} (q q' : Queue X) (x : X) → (length (contents q) ≡ capacity q → ⊥) → q'.slots.now ≡ set q.slots.now (place q) x → q'.slots.ghost_name ≡ q.slots.ghost_name → q'.head ≡ q.head → q'.len ≡ q.len + 1 → Appended q (x ∷ []) q'
+appended_one q q' x f s l h n =
+    let room : q.len < capacity q = omega (arith, q.few, length-contents q) in
+    record {
+      items = rw (s, h, n) (ring_put q.slots.now q.head q.len x q.inside room);
+      slots = s;
+      next = rw (s, h, n, length-set) (sym (onward_more (capacity q) q.head q.len 1 q.inside (omega arith)));
+      lent = l;
+    }
 
-onward_more : (cap p m n : ℕ) → p ≤ cap - 1 → m + n ≤ cap → onward cap (onward cap p m) n ≡ onward cap p (m + n)
-onward_more cap p m n l k = grind (arith, nat_tests)
+pub removed_one : {X : Type 0} (q q' : Queue X) (x : X) → contents q ≡ x ∷ drop 1 (contents q) → q'.slots ≡ q.slots → q'.head ≡ onward (capacity q) q.head 1 → q'.len ≡ q.len - 1 → Removed q (x ∷ []) q'
+removed_one q q' x e s h n =
+    let some : 0 < q.len = omega (arith, ap length e, length-contents q) in
+    record {
+      items = rw (s, h, n) (cc (e, ring_take q.slots.now q.head q.len x some q.few q.inside));
+      slots = ap (λ b. b.now) s;
+      next = rw (s, h, n) (onward_more (capacity q) q.head 1 (q.len - 1) q.inside (omega (arith, q.few)) ∙ ap (onward (capacity q) q.head) (omega arith));
+      lent = ap (λ b. b.ghost_name) s;
+    }
 
 length-stored : {X : Type 0} (xs : List X) (p : ℕ) (ys : List X) → length (stored xs p ys) ≡ length xs
 length-stored xs p [] = refl
 length-stored xs p (y ∷ ys) = length-stored (set xs p y) (onward (length xs) p 1) ys ∙ length-set xs p y
 
 stored-append : {X : Type 0} (xs : List X) (p : ℕ) (ys zs : List X) → p ≤ length xs - 1 → length ys ≤ length xs → stored xs p (ys ++ zs) ≡ stored (stored xs p ys) (onward (length xs) p (length ys)) zs
-stored-append xs p [] zs l m = ap (λ i. stored xs i zs) (sym (onward_none (length xs) p l))
+stored-append xs p [] zs l m = rw (onward_none (length xs) p l)
 stored-append xs p (y ∷ ys) zs l m =
     let long = length-set xs p y in
-    let next : onward (length (set xs p y)) (onward (length xs) p 1) (length ys) ≡ onward (length xs) p (length (y ∷ ys)) = rw long (onward_more (length xs) p 1 (length ys) l (omega arith) ∙ ap (onward (length xs) p) (omega arith)) in
-    stored-append (set xs p y) (onward (length xs) p 1) ys zs (rw long (onward_within (length xs) p 1 l (omega arith))) (omega arith) ∙ ap (λ i. stored (stored xs p (y ∷ ys)) i zs) next
+    let next : onward (length xs) p (length (y ∷ ys)) ≡ onward (length xs) (onward (length xs) p 1) (length ys) = ap (onward (length xs) p) (omega arith) ∙ sym (onward_more (length xs) p 1 (length ys) l (omega arith)) in
+    rw next (rw long at (stored-append (set xs p y) (onward (length xs) p 1) ys zs (rw long (onward_within (length xs) p 1 l (omega arith))) (omega arith)))
 
 -- Putting leaves the capacity.
 pub appended_capacity : {X : Type 0} {q q' : Queue X} {ys : List X} → Appended q ys q' → capacity q' ≡ capacity q
@@ -62,9 +73,9 @@ appended_more {X} {p} {q} {r} {xs} {ys} a b =
     let same : capacity q ≡ capacity p = appended_capacity a in
     let fits : length xs + length ys ≤ capacity p = omega (arith, appended_fits b, appended_length a) in
     record {
-      items = b.items ∙ ap (λ zs. zs ++ ys) a.items ∙ append_assoc (contents p) xs ys;
-      slots = b.slots ∙ ap (λ zs. stored zs (place q) ys) a.slots ∙ ap (λ i. stored (stored (memory p).now (place p) xs) i ys) a.next ∙ sym (stored-append (memory p).now (place p) xs ys (place_within p) (omega arith));
-      next = b.next ∙ ap (λ cap. onward cap (place q) (length ys)) same ∙ ap (λ i. onward (capacity p) i (length ys)) a.next ∙ onward_more (capacity p) (place p) (length xs) (length ys) (place_within p) fits ∙ ap (onward (capacity p) (place p)) (sym (length-append xs ys));
+      items = rw (b.items, a.items) (append_assoc (contents p) xs ys);
+      slots = cc (b.slots, a.slots, a.next, stored-append (memory p).now (place p) xs ys (place_within p) (omega arith));
+      next = cc (b.next, a.next, same, length-append xs ys, onward_more (capacity p) (place p) (length xs) (length ys) (place_within p) fits);
       lent = b.lent ∙ a.lent;
     }
 
@@ -74,7 +85,7 @@ removed_none q = record { items = refl; slots = refl; next = refl; lent = refl }
 
 pub removed_more : {X : Type 0} {p q r : Queue X} {xs ys : List X} → Removed p xs q → Removed q ys r → Removed p (xs ++ ys) r
 removed_more {X} {p} {q} {r} {xs} {ys} a b = record {
-  items = a.items ∙ ap (λ zs. xs ++ zs) b.items ∙ sym (append_assoc xs ys (contents r));
+  items = rw (a.items, b.items) (sym (append_assoc xs ys (contents r)));
   slots = b.slots ∙ a.slots;
   next = b.next ∙ a.next;
   lent = b.lent ∙ a.lent;
@@ -82,5 +93,5 @@ removed_more {X} {p} {q} {r} {xs} {ys} a b = record {
 
 -- What a take gives where the oldest element is known, as after a peek.
 pub taken_known : {X : Type 0} {q q' : Queue X} {m : X} {rest : List X} (r : Option X) → MatchOption r ((contents q ≡ []) × (q' ≡ q)) (λ x. Removed q (x ∷ []) q') → contents q ≡ m ∷ rest → Removed q (m ∷ []) q'
-taken_known None t e = let z : ◌≡◌ {A = ℕ} 0 1 = cc (t.0, e) in absurd (omega arith)
-taken_known {X} {q} {q'} {m} {rest} (Some x) t e = let same : x ≡ m = cc (t.items, e) in subst (λ y. Removed q (y ∷ []) q') same t
+taken_known None t e = cc (t.0, e)
+taken_known (Some x) t e = let same : x ≡ _ = cc (t.items, e) in rw same at t

@@ -1,18 +1,14 @@
 -- What a queue holds, and what puts and takes do to it.
 use Rattle.std.specs.Borrow.{MutBor}
-use Rattle.std.specs.Prelude.{◌≡◌, ℕ, ◌+◌, ◌-◌, cond, List, [], ◌∷◌, ◌++◌, length, take, drop, nat_lt, slice_set}
+use Rattle.std.specs.Prelude.{◌≡◌, ℕ, ◌+◌, ◌-◌, List, [], ◌∷◌, ◌++◌, length, take, drop, nat_lt, if◌then◌else◌, slice_set}
 use Rattle.queue.specs.declared.Queue.{Queue}
 
--- The first len elements of the list xs, turned so that it begins at head.
+-- The first len elements of the list xs from head on, and from its start again behind its end.
 abbrev pub ring : {X : Type 0} → List X → ℕ → ℕ → List X
-ring xs head len = take len (drop head xs ++ take head xs)
-
--- Where the first of them stands; a head past the end is the start.
-abbrev pub start : {X : Type 0} → List X → ℕ → ℕ
-start xs head = cond (nat_lt head (length xs)) head 0
+ring xs head len = take len (drop head xs ++ xs)
 
 -- The elements of a queue, the oldest first.
-unfoldable pub contents : {X : Type 0} → Queue X → List X
+abbrev pub contents : {X : Type 0} → Queue X → List X
 contents q = ring q.slots.now q.head q.len
 
 -- The slice that the queue was lent.
@@ -25,11 +21,11 @@ capacity q = length q.slots.now
 
 -- The place n on from p, round the end of cap places.
 abbrev pub onward : ℕ → ℕ → ℕ → ℕ
-onward cap p n = cond (nat_lt n (cap - p)) (p + n) (n - (cap - p))
+onward cap p n = if nat_lt n (cap - p) then p + n else n - (cap - p)
 
 -- Where the next element is written.
-unfoldable pub place : {X : Type 0} → Queue X → ℕ
-place q = onward (capacity q) (start q.slots.now q.head) (length (contents q))
+abbrev pub place : {X : Type 0} → Queue X → ℕ
+place q = onward (capacity q) q.head q.len
 
 -- The list xs after ys are written into it from place p on, round its end.
 abbrev pub stored : {X : Type 0} → List X → ℕ → List X → List X

@@ -1,21 +1,25 @@
 //! A first-in first-out queue of any kind of element over memory that the caller lends.
 #![tactic(auto)]
 
-ghost use Rattle.std.specs.Prelude.{◌≡◌, ◌+◌, ◌<◌, [], ◌∷◌, length, drop, Decides, MatchOption, MatchResult};
+ghost use Rattle.std.specs.Prelude.{◌≡◌, ◌+◌, ◌-◌, ◌≤◌, ◌↔◌, [], ◌∷◌, length, drop, IsTrue, MatchOption, MatchResult};
 ghost use Rattle.fault.specs.declared.Fault.TheVariants.{QueueFull};
-ghost use Rattle.queue.specs.Contents.{contents, capacity, memory, place, start, Appended, Removed};
 
 use fault::Fault;
 
 /// A queue over a lent slice. It holds the first `len` elements of the slots from `head` on, round the end.
-#[derive(Drop)]
+#[derive(Debug, Drop)]
 pub struct Queue<'a, T: Copy> {
     slots: &'a mut [T],
     head: usize,
     len: usize,
+    ghost few: { len ≤ length slots.now },
+    // One of the slots, and 0 where there are none.
+    ghost inside: { head ≤ length slots.now - 1 },
 }
 
 impl<'a, T: Copy> Queue<'a, T> {
+    ghost use Rattle.queue.specs.Contents.{contents, capacity, memory, onward, place, Appended, Removed};
+
     /// An empty queue over `slots`, which it leaves as they are.
     pub fn new(slots: &'a mut [T]) -> Queue<'a, T>
         ensures empty { contents result ≡ [] }
@@ -34,7 +38,7 @@ impl<'a, T: Copy> Queue<'a, T> {
     pub fn len(&self) -> usize
         ensures { result ≡ length (contents self.now) }
     {
-        self.len.min(self.capacity())
+        self.len
     }
 
     /// The number of elements that the lent memory has room for.
@@ -48,74 +52,72 @@ impl<'a, T: Copy> Queue<'a, T> {
     pub fn room(&self) -> usize
         ensures { result + length (contents self.now) ≡ capacity self.now }
     {
-        self.capacity().saturating_sub(self.len)
+        self.capacity() - self.len
     }
 
     /// Whether there is no element.
     pub fn is_empty(&self) -> bool
-        ensures { Decides result (length (contents self.now) ≡ 0) }
+        ensures { IsTrue result ↔ (length (contents self.now) ≡ 0) }
     {
-        self.len() == 0
+        self.len == 0
     }
 
     /// Whether a put would be refused.
     pub fn is_full(&self) -> bool
-        ensures { Decides result (length (contents self.now) ≡ capacity self.now) }
+        ensures { IsTrue result ↔ (length (contents self.now) ≡ capacity self.now) }
     {
-        self.len >= self.capacity()
+        self.len == self.capacity()
     }
 
-    // The slot of the oldest element.
-    fn first(&self) -> usize
-        ensures { result ≡ start (memory self.now).now self.now.head }
+    // The slot `n` on from that of the oldest element, round the end.
+    fn slot(&self, n: usize) -> usize
+        ensures { result ≡ onward (capacity self.now) self.now.head n }
     {
-        if self.head < self.capacity() {
-            self.head
+        let before_end = self.capacity() - self.head;
+        if n < before_end {
+            self.head + n
         } else {
-            0
+            n - before_end
         }
     }
 
     /// Puts an element at the end. A full queue refuses, and is left as it is.
     pub fn put(&mut self, x: T) -> Result<(), Fault>
-        ensures { MatchResult result (λ _. Appended self.old (x ∷ []) self.new) (λ f. (f ≡ QueueFull) × (length (contents self.old) ≡ capacity self.old) × (self.new ≡ self.old)) }
+        ensures { MatchResult result
+            (λ _. Appended self.old (x ∷ []) self.new)
+            (λ f. (f ≡ QueueFull) × (length (contents self.old) ≡ capacity self.old) × (self.new ≡ self.old)) }
     {
-        let cap = self.capacity();
-        if self.len >= cap {
+        if self.is_full() {
             return Err(Fault::QueueFull);
         }
-        let before_end = cap.saturating_sub(self.head);
-        let at = if self.len < before_end {
-            self.head + self.len
-        } else {
-            self.len - before_end
-        };
+        let len = self.len;
+        let at = self.slot(len);
         self.slots[at] = x;
-        self.len += 1;
+        self.len = len + 1;
         Ok(())
     }
 
     /// The oldest element, which stays.
     pub fn peek(&self) -> Option<T>
-        ensures { MatchOption result (contents self.now ≡ []) (λ x. contents self.now ≡ x ∷ drop 1 (contents self.now)) }
+        ensures { MatchOption result
+            (contents self.now ≡ [])
+            (λ x. contents self.now ≡ x ∷ drop 1 (contents self.now)) }
     {
-        if self.len() == 0 {
+        if self.is_empty() {
             return None;
         }
-        let first = self.first();
-        let slots = &*self.slots;
-        Some(slots[first])
+        Some(self.slots[self.head])
     }
 
     /// Takes the oldest element out. An empty queue is left as it is.
     pub fn take(&mut self) -> Option<T>
-        ensures { MatchOption result ((contents self.old ≡ []) × (self.new ≡ self.old)) (λ x. Removed self.old (x ∷ []) self.new) }
+        ensures { MatchOption result
+            ((contents self.old ≡ []) × (self.new ≡ self.old))
+            (λ x. Removed self.old (x ∷ []) self.new) }
     {
         let x = self.peek()?;
-        let first = self.first();
-        let len = self.len();
-        self.head = first + 1;
-        self.len = len - 1;
+        self.head = self.slot(1);
+        self.len -= 1;
         Some(x)
     }
 }

@@ -1,24 +1,16 @@
 -- What a segmenter stands at, and what its calls do.
-use Rattle.std.specs.Prelude.{◌≡◌, ℕ, ◌+◌, ◌-◌, ◌≤◌, List, [], ◌∷◌, ◌++◌, length, take, Some, None, Option, ◌≢◌}
+use Rattle.std.specs.Prelude.{◌≡◌, ℕ, ◌+◌, ◌-◌, ◌≤◌, List, [], ◌++◌, length, take, Some, None, ◌≢◌}
+use Rattle.std.specs.Option.{option_to_list}
 use Rattle.queue.specs.declared.Queue.{Queue}
 use Rattle.queue.specs.Contents.{contents, capacity, Appended, Removed}
 use Rattle.segment.specs.declared.Segment.{Segment}
 use Rattle.segment.specs.declared.Segmenter.{Segmenter}
-use Rattle.segment.specs.Segments.{SegmentsOf, TheSegments}
-
--- The most modes that a segmenter takes before its end call.
-abbrev pub limit : ℕ
-limit = 1000000
-
--- The segment in hand, if any, as a list.
-abbrev pub in_hand : Option Segment → List Segment
-in_hand None = []
-in_hand (Some s) = s ∷ []
+use Rattle.segment.specs.Segments.{limit, SegmentsOf, TheSegments}
 
 -- Since it was new, the segmenter took the modes `taken` and put the segments `put`: these and the one in hand are the
 -- segments of all modes taken. There is one in hand as soon as a mode is taken.
 pub record Stands (s : Segmenter) (taken : List ℕ) (put : List Segment) : Type 0 where
-  pub segments : TheSegments taken (put ++ in_hand s.hand)
+  pub segments : TheSegments taken (put ++ option_to_list s.hand)
   pub none : s.hand ≡ None → taken ≡ []
   pub count : s.taken ≡ length taken
   pub few : length taken ≤ limit
@@ -34,7 +26,7 @@ pub record Grown (s : Segmenter) (q : Queue Segment) (ms : List ℕ) (s' : Segme
 pub record Blocked (s : Segmenter) (m : ℕ) (q : Queue Segment) : Type 0 where
   pub segment : Segment
   pub held : s.hand ≡ Some segment
-  pub other : segment.mode ≡ m → ⊥
+  pub other : segment.mode ≢ m
   pub full : length (contents q) ≡ capacity q
 
 -- After `taken` and `put`, the first k of the modes that wait can be taken: there are so many, it comes to at most

@@ -1,7 +1,11 @@
 -- The segments of a list of modes.
-use Rattle.std.specs.Prelude.{◌≡◌, ℕ, ◌+◌, ◌<◌, List, [], ◌∷◌, ◌++◌, length, replicate, ◌≢◌}
-use Rattle.std.specs.List.{flat_map, AllByRecursion}
+use Rattle.std.specs.Prelude.{◌≡◌, ℕ, ◌+◌, ◌<◌, List, [], ◌∷◌, ◌++◌, length, replicate, All, ◌≢◌}
+use Rattle.std.specs.List.{flat_map}
 use Rattle.segment.specs.declared.Segment.{Segment}
+
+-- The most modes that a segmenter takes before its end call.
+abbrev pub limit : ℕ
+limit = 1000000
 
 -- The modes of a segment.
 abbrev pub modes_of : Segment → List ℕ
@@ -21,7 +25,7 @@ PlacedFrom n (s ∷ ss) = (s.first ≡ n) × PlacedFrom (n + s.length) ss
 -- The list of modes ms falls into the segments ss: together they are ms, none is empty, and none could be longer.
 pub record SegmentsOf (ms : List ℕ) (ss : List Segment) : Type 0 where
   pub whole : flat_map modes_of ss ≡ ms
-  pub some : AllByRecursion (λ s. 0 < s.length) ss
+  pub some : All (λ s. 0 < s.length) ss
   pub longest : NeighboursDiffer ss
   pub placed : PlacedFrom 1 ss
 
@@ -39,4 +43,4 @@ pub record LongestStretch (ms : List ℕ) (s : Segment) : Type 0 where
 pub record TheSegments (ms : List ℕ) (ss : List Segment) : Type 0 where
   pub are : SegmentsOf ms ss
   pub only : (ts : List Segment) → SegmentsOf ms ts → ts ≡ ss
-  pub stretches : AllByRecursion (LongestStretch ms) ss
+  pub stretches : All (LongestStretch ms) ss

@@ -1,9 +1,10 @@
 //! Segments of a list of modes: its longest stretches of one mode.
 #![tactic(auto)]
 
-ghost use Rattle.std.specs.Prelude.{◌≡◌, ◌+◌, ◌<◌, [], ◌∷◌, Some, MatchResult};
+ghost use Rattle.std.specs.Prelude.{◌≡◌, ◌<◌, ◌≤◌, [], ◌∷◌, MatchResult};
+ghost use Rattle.std.specs.Option.{ForSome};
 ghost use Rattle.fault.specs.declared.Fault.TheVariants.{QueueFull};
-ghost use Rattle.segment.specs.Segmenter.{limit, Stands, Grown, Blocked, Advanced, Ended, EndBlocked};
+ghost use Rattle.segment.specs.Segments.{limit};
 
 use fault::Fault;
 use queue::Queue;
@@ -20,13 +21,17 @@ pub struct Segment {
 }
 
 /// Condenses modes into segments. It holds the segment of the last mode taken, which may still grow.
-#[derive(Drop)]
+#[derive(Debug, Drop)]
 pub struct Segmenter {
     hand: Option<Segment>,
     taken: u32,
+    ghost few: { taken ≤ limit },
+    ghost held: { ForSome hand (λ s. s.length ≤ taken) },
 }
 
 impl Segmenter {
+    ghost use Rattle.segment.specs.Segmenter.{Stands, Grown, Blocked, Advanced, Ended, EndBlocked};
+
     /// A segmenter that has taken no mode.
     pub fn new() -> Segmenter
         ensures { Stands result [] [] }
@@ -43,23 +48,24 @@ impl Segmenter {
     pub fn advance(&mut self, modes: &mut Queue<u8>, segments: &mut Queue<Segment>) -> usize
         ensures { Advanced self.old modes.old segments.old result self.new modes.new segments.new }
     {
-        let mut count = 0;
-        while self.taken < MOST {
+        let most = (MOST - self.taken) as usize;
+        for count in 0..most {
             let Some(mode) = modes.peek() else {
                 return count;
             };
             let Ok(()) = self.step(mode, segments) else {
                 return count;
             };
-            let _ = modes.take();
-            count += 1;
+            modes.take();
         }
-        count
+        most
     }
 
     /// Puts the segment in hand, if there is one, and is new again. Refused where there is no room for it.
     pub fn end(&mut self, segments: &mut Queue<Segment>) -> Result<(), Fault>
-        ensures { MatchResult result (λ _. Ended self.old segments.old self.new segments.new) (λ f. (f ≡ QueueFull) × (self.new ≡ self.old) × (segments.new ≡ segments.old) × EndBlocked self.old segments.old) }
+        ensures { MatchResult result
+            (λ _. Ended self.old segments.old self.new segments.new)
+            (λ f. (f ≡ QueueFull) × (self.new ≡ self.old) × (segments.new ≡ segments.old) × EndBlocked self.old segments.old) }
     {
         if let Some(last) = self.hand {
             segments.put(last)?;
@@ -71,37 +77,31 @@ impl Segmenter {
     // Takes one mode. Where that closes the segment in hand and there is no room for it, all is left as it is.
     fn step(&mut self, mode: u8, segments: &mut Queue<Segment>) -> Result<(), Fault>
         requires { self.old.taken < limit }
-        ensures { MatchResult result (λ _. Grown self.old segments.old (mode ∷ []) self.new segments.new) (λ _. (self.new ≡ self.old) × (segments.new ≡ segments.old) × Blocked self.old mode segments.old) }
+        ensures { MatchResult result
+            (λ _. Grown self.old segments.old (mode ∷ []) self.new segments.new)
+            (λ _. (self.new ≡ self.old) × (segments.new ≡ segments.old) × Blocked self.old mode segments.old) }
     {
-        match (self.hand, mode) {
-            (None, mode) => self.hold(Segment {
-                mode,
-                first: 1,
-                length: 1,
-            }),
-            (Some(segment), mode) if segment.mode == mode => self.hold(Segment {
-                length: segment.length.saturating_add(1),
+        let fresh = Segment {
+            mode,
+            first: self.taken + 1,
+            length: 1,
+        };
+        let hand = match (self.hand, mode) {
+            (None, _) => fresh,
+            (Some(segment), mode) if segment.mode == mode => Segment {
+                length: segment.length + 1,
                 ..segment
-            }),
-            (Some(segment), mode) => {
+            },
+            (Some(segment), _) => {
                 segments.put(segment)?;
-                self.hold(Segment {
-                    mode,
-                    first: self.taken + 1,
-                    length: 1,
-                });
+                fresh
             }
-        }
+        };
+        *self = Segmenter {
+            hand: Some(hand),
+            taken: self.taken + 1,
+        };
         Ok(())
-    }
-
-    // One mode more is taken, and `segment` is the one in hand.
-    fn hold(&mut self, segment: Segment)
-        requires { self.old.taken < limit }
-        ensures { self.new ≡ record { hand = Some segment; taken = self.old.taken + 1 } }
-    {
-        self.hand = Some(segment);
-        self.taken += 1;
     }
 }
 

@@ -1,41 +1,25 @@
-use Rattle.std.proofs.Common.{[], ◌∷◌, ◌++◌, drop, sym, refl, subst, inl, inr, arith}
-use Rattle.std.proofs.lemmas.List.{length_push}
-use Rattle.queue.proofs.Moves.{removed_none, removed_more, taken_known}
+use Rattle.std.proofs.Common.{drop, subst, inl, inr, arith}
+use Rattle.queue.proofs.Moves.{taken_known}
 use Rattle.queue.specs.Contents.{contents}
 use Rattle.segment.specs.Segmenter.{Advanced}
-use Rattle.segment.proofs.Calls.{advanced}
-use Rattle.segment.proofs.Steps.{grown_none, grown_more}
+use Rattle.segment.proofs.Calls.{advanced, moving_none, moving_more}
 use Rattle.segment.proofs.Segmenter.advance.Goals as goal
 
-pub loop-self-init : goal.loop-self-init
-loop-self-init c = ([], refl, removed_none c.args.modes.now, grown_none c.args.self.now c.args.segments.now)
+pub loop-count-init : goal.loop-count-init
+loop-count-init c = moving_none _ _ _
 
 pub returns-in_default : goal.returns-in_default
-returns-in_default c = let i = c.loop-self.invariant in advanced i.0 i.1 i.2 i.3 (inl c.in_default.ensures)
+returns-in_default c = advanced c.loop-count.invariant (inl c.in_default.ensures)
 
 pub returns-in_default-step : goal.returns-in_default-step
 returns-in_default-step c =
-    let s = c.args.self.now in
-    let modes = c.args.modes.now in
-    let q = c.args.segments.now in
-    let n = c.loop-self.count in
-    let i = c.loop-self.invariant in
     let e = c.in_default-step.ensures in
-    let stopped = advanced i.0 i.1 i.2 i.3 (inr (inr (c.in-Some.mode, drop 1 (contents c.loop-self.modes), c.in-Some.ensures, e.2))) in
-    subst (λ s'. Advanced s modes q n s' c.loop-self.modes c.step.new.segments) (sym e.0) (subst (Advanced s modes q n c.loop-self.self c.loop-self.modes) (sym e.1) stopped)
+    rw (e.0, e.1) (advanced c.loop-count.invariant (inr (inr (c.in-Some.mode, drop 1 (contents c.loop-count.modes), c.in-Some.ensures, e.2))))
 
-pub overflow_add-count : goal.overflow_add-count
-overflow_add-count c = omega (arith, c.loop-self.invariant.1, c.loop-self.invariant.3.count)
-
-pub loop-self-preserved : goal.loop-self-preserved
-loop-self-preserved c =
-    let i = c.loop-self.invariant in
-    let m = c.in-Some.mode in (
-      i.0 ++ m ∷ [],
-      omega (arith, i.1, length_push i.0 m),
-      removed_more i.2 (taken_known c.take.result c.take.ensures c.in-Some.ensures),
-      grown_more i.3 c.in-Ok.ensures,
-    )
+pub loop-count-preserved : goal.loop-count-preserved
+loop-count-preserved c = moving_more c.in-Some.mode c.loop-count.invariant (taken_known c.take.result c.take.ensures c.in-Some.ensures) c.in-Ok.ensures
 
 pub returns : goal.returns
-returns c = let i = c.loop-self.invariant in advanced i.0 i.1 i.2 i.3 (inr (inl (omega (arith, c.loop-self-test.false))))
+returns c =
+    let i = c.loop-count.invariant in
+    subst (λ n. Advanced c.args.self.now c.args.modes.now c.args.segments.now n c.loop-count.self c.loop-count.modes c.loop-count.segments) (omega arith) (advanced i (inr (inl (omega (arith, i.counted, i.grown.count)))))
