@@ -7,30 +7,25 @@ use logfile::Reader;
 use std::io::Read;
 use std::process::ExitCode;
 
-// Prints the records, and answers the fault at which the file cannot be read on, if any.
-fn list(rt: &HostRuntime, file: &[u8]) -> anyhow::Result<Option<Fault>> {
+// Prints the records up to the end of the file, or to its fault.
+fn list(rt: &HostRuntime, file: &[u8]) -> anyhow::Result<Result<(), Fault>> {
     let mut reader = Reader::new(file);
     loop {
+        // All three answers in one match: with `?` the fault and a failed print would need one error type.
         match reader.next() {
             Ok(Some(placed)) => println!(rt; "{placed}")?,
-            Ok(None) => return Ok(None),
-            Err(fault) => return Ok(Some(fault)),
+            Ok(None) => return Ok(Ok(())),
+            Err(fault) => return Ok(Err(fault)),
         }
     }
-}
-
-fn run(rt: &HostRuntime) -> anyhow::Result<Option<Fault>> {
-    let mut file = Vec::new(rt.alloc());
-    rt.stdin().read_to_end(&mut file)?;
-    list(rt, file.as_slice())
 }
 
 fn main(rt: HostRuntime) -> anyhow::Result<ExitCode> {
-    match run(&rt)? {
-        None => Ok(ExitCode::SUCCESS),
-        Some(fault) => {
-            eprintln!(rt; "{fault}")?;
-            Ok(ExitCode::FAILURE)
-        }
+    let mut file = Vec::new(rt.alloc());
+    rt.stdin().read_to_end(&mut file)?;
+    if let Err(fault) = list(&rt, &file)? {
+        eprintln!(rt; "{fault}")?;
+        return Ok(ExitCode::FAILURE);
     }
+    Ok(ExitCode::SUCCESS)
 }
