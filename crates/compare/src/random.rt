@@ -1,12 +1,12 @@
 //! Random logs: the full table against every path.
-ghost use Rattle.std.specs.Prelude.{◌<◌};
+ghost use Rattle.std.specs.Prelude.{◌<◌, ◌≤◌};
 
-use super::{Score, engine};
+use super::comparison::Comparison;
 use cost::{CostKind, Graded, Strict};
-use decoder::Decoder;
-use model::{DenseTable, Model};
+use model::{Costs, DenseTable, Model};
 use reference::all_paths;
 use reference::full_table::FullTable;
+use std::alloc::Global;
 
 /// How many random tables are tried; each decodes one log under each kind.
 const TABLES: u32 = 200;
@@ -18,6 +18,14 @@ const LONG_LOGS: u32 = 10;
 #[derive(Drop)]
 struct Dice {
     state: u32,
+}
+
+// The numbers of a random dense table.
+#[derive(Drop)]
+struct Table {
+    modes: u32,
+    values: u32,
+    numbers: Vec<u32>,
 }
 
 impl Dice {
@@ -34,98 +42,99 @@ impl Dice {
     fn value(&mut self, values: u32) -> u8 {
         (self.roll(values) & 0xff) as u8
     }
+
+    // A table with few penalties, of so many modes and values at most.
+    fn table(&mut self, heap: Global, modes: u32, values: u32) -> anyhow::Result<Table>
+        requires modes { (0 < modes) × (modes ≤ 8) }
+        requires values { (0 < values) × (values ≤ 8) }
+    {
+        let modes = self.roll(modes) + 1;
+        let values = self.roll(values) + 1;
+        let mut numbers = Vec::new(heap);
+        for _ in 0..modes + modes * modes + modes * values {
+            let breach = self.roll(5) / 4;
+            numbers.push(breach * 65536 + self.roll(4))?;
+        }
+        Ok(Table {
+            modes,
+            values,
+            numbers,
+        })
+    }
+}
+
+impl Table {
+    fn model(&self) -> DenseTable<'_> {
+        DenseTable::new(self.modes as usize, self.values as usize, &self.numbers)
+    }
 }
 
 // Decodes one random log of at most six readings both ways, with decided readings and live cells after each one.
 // A reading that is refused must leave no path open.
-fn one<C: CostKind>(
-    rt: &HostRuntime,
-    score: &mut Score,
-    decoder: &mut Decoder,
+fn one<M: Model, C: CostKind>(
+    comparison: &mut Comparison,
     dice: &mut Dice,
-    model: &DenseTable,
+    costs: &Costs<M, C>,
     values: u32,
-    kind: &C,
 ) -> anyhow::Result<()> {
-    let heap = rt.alloc();
-    let mut table = FullTable::new(heap, model.modes());
+    let heap = comparison.heap();
+    let mut table = FullTable::new(heap, costs.model.modes());
     let mut readings = Vec::new(heap);
     for _ in 0..dice.roll(7) {
         let value = dice.value(values);
         readings.push(value)?;
-        if table.push(model, kind, usize::from(value))? {
-            let found = table.progress()?;
-            let other = all_paths::progress(heap, model, kind, &readings)?;
-            score.count(found.decided == other.decided && found.live == other.live);
+        if table.push(costs, usize::from(value))? {
+            let other = all_paths::progress(heap, costs, &readings)?;
+            comparison.count(table.progress()? == other);
         } else {
-            let other = all_paths::decode(heap, model, kind, &readings)?;
-            score.count(other.is_none());
+            let other = all_paths::decode(heap, costs, &readings)?;
+            comparison.count(other.is_none());
             let _ = readings.pop();
         }
     }
-    score.count(engine::agrees(rt, decoder, model, kind, &readings)?);
-    let found = table.decode(kind)?;
-    match all_paths::decode(heap, model, kind, &readings)? {
-        None => score.count(false),
-        Some(other) => {
-            let modes = found.modes.as_slice() == other.modes.as_slice();
-            score.count(modes && found.total == other.total);
-        }
-    }
+    let equal = comparison.agrees(costs, &readings)?;
+    comparison.count(equal);
+    let found = table.decode(costs.kind)?;
+    let other = all_paths::decode(heap, costs, &readings)?;
+    comparison.count(other.is_some_and(|other| other == found));
     Ok(())
 }
 
-// So many numbers of a random table with few penalties.
-fn entries(rt: &HostRuntime, dice: &mut Dice, count: u32) -> anyhow::Result<Vec<u32>> {
-    let mut numbers = Vec::new(rt.alloc());
-    for _ in 0..count {
-        let breach = dice.roll(5) / 4;
-        numbers.push(breach * 65536 + dice.roll(4))?;
-    }
-    Ok(numbers)
-}
-
 /// Random logs of random tables of at most three modes, with few penalties, so that many paths are equally cheap.
-pub(crate) fn logs(
-    rt: &HostRuntime,
-    score: &mut Score,
-    decoder: &mut Decoder,
-) -> anyhow::Result<()> {
+pub(crate) fn logs(comparison: &mut Comparison) -> anyhow::Result<()> {
     let mut dice = Dice { state: 2463534242 };
     for _ in 0..TABLES {
-        let modes = dice.roll(3) + 1;
-        let values = dice.roll(3) + 1;
-        let numbers = entries(rt, &mut dice, modes + modes * modes + modes * values)?;
-        let model = DenseTable::new(modes as usize, values as usize, &numbers);
-        one(rt, score, decoder, &mut dice, &model, values, &Strict {})?;
-        one(rt, score, decoder, &mut dice, &model, values, &Graded {})?;
+        let table = dice.table(comparison.heap(), 3, 3)?;
+        let model = &table.model();
+        let kind = &Strict {};
+        one(comparison, &mut dice, &Costs { model, kind }, table.values)?;
+        let kind = &Graded {};
+        one(comparison, &mut dice, &Costs { model, kind }, table.values)?;
     }
-    println!(rt;
+    println!(comparison.rt;
         "{TABLES} random tables, a log under each kind: full table, engine and every path"
     )?;
     Ok(())
 }
 
 /// Longer random logs of tables of at most eight modes: the engine against the full table.
-pub(crate) fn long_logs(
-    rt: &HostRuntime,
-    score: &mut Score,
-    decoder: &mut Decoder,
-) -> anyhow::Result<()> {
+pub(crate) fn long_logs(comparison: &mut Comparison) -> anyhow::Result<()> {
     let mut dice = Dice { state: 88675123 };
     for _ in 0..LONG_LOGS {
-        let modes = dice.roll(8) + 1;
-        let values = dice.roll(4) + 1;
-        let numbers = entries(rt, &mut dice, modes + modes * modes + modes * values)?;
-        let mut readings = Vec::new(rt.alloc());
+        let table = dice.table(comparison.heap(), 8, 4)?;
+        let mut readings = Vec::new(comparison.heap());
         for _ in 0..60 {
-            readings.push(dice.value(values))?;
+            readings.push(dice.value(table.values))?;
         }
-        let model = DenseTable::new(modes as usize, values as usize, &numbers);
-        score.count(engine::agrees(rt, decoder, &model, &Strict {}, &readings)?);
-        score.count(engine::agrees(rt, decoder, &model, &Graded {}, &readings)?);
+        let model = &table.model();
+        let kind = &Strict {};
+        let strict = comparison.agrees(&Costs { model, kind }, &readings)?;
+        comparison.count(strict);
+        let kind = &Graded {};
+        let graded = comparison.agrees(&Costs { model, kind }, &readings)?;
+        comparison.count(graded);
     }
-    println!(rt;
+    println!(comparison.rt;
         "{LONG_LOGS} logs of 60 readings under each kind: the engine against the full table"
     )?;
     Ok(())

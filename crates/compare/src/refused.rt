@@ -1,34 +1,25 @@
 //! Models whose parts are out of range: the first fault is named, and the model has no modes.
-use super::Score;
+use super::comparison::Comparison;
 use super::worked::SAW;
 use fault::Fault;
 use model::{Banded, DenseTable, Model, Parameters};
 
 // Prints what a check says, and notes whether it names this fault and the model has no modes and no values.
 fn show<M: Model>(
-    rt: &HostRuntime,
-    score: &mut Score,
+    comparison: &mut Comparison,
     name: &str,
     model: &M,
     checked: Result<(), Fault>,
     expected: Fault,
 ) -> anyhow::Result<()> {
     match checked {
-        Ok(()) => {
-            println!(rt; "{name}: no fault")?;
-            score.note(rt, false)
-        }
-        Err(fault) => {
-            println!(rt; "{name}: {fault}")?;
-            score.note(
-                rt,
-                fault == expected && model.modes() == 0 && model.values() == 0,
-            )
-        }
+        Ok(()) => println!(comparison.rt; "{name}: no fault")?,
+        Err(fault) => println!(comparison.rt; "{name}: {fault}")?,
     }
+    comparison.note(checked == Err(expected) && model.modes() == 0 && model.values() == 0)
 }
 
-fn tables(rt: &HostRuntime, score: &mut Score) -> anyhow::Result<()> {
+fn tables(comparison: &mut Comparison) -> anyhow::Result<()> {
     let numbers = [0, 655360, 655360];
     let cases = [
         ("a table of 33 modes", 33, 1, Fault::TableShape),
@@ -39,14 +30,14 @@ fn tables(rt: &HostRuntime, score: &mut Score) -> anyhow::Result<()> {
     for (name, modes, values, expected) in cases {
         let model = DenseTable::new(modes, values, &numbers);
         let checked = DenseTable::check(modes, values, &numbers);
-        show(rt, score, name, &model, checked, expected)?;
+        show(comparison, name, &model, checked, expected)?;
     }
     Ok(())
 }
 
 /// Tables and parameters that are refused.
-pub(crate) fn models(rt: &HostRuntime, score: &mut Score) -> anyhow::Result<()> {
-    tables(rt, score)?;
+pub(crate) fn models(comparison: &mut Comparison) -> anyhow::Result<()> {
+    tables(comparison)?;
     let parameters = Parameters {
         band: 32,
         spacing: 256,
@@ -55,8 +46,7 @@ pub(crate) fn models(rt: &HostRuntime, score: &mut Score) -> anyhow::Result<()> 
     let model = Banded::new(parameters);
     let name = "a saw with a band of 32 and a spacing of 256";
     show(
-        rt,
-        score,
+        comparison,
         name,
         &model,
         parameters.check(),

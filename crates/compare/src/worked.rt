@@ -1,21 +1,27 @@
 //! The worked logs: short logs whose answers are known.
-use super::{Score, engine};
-use cost::{CostKind, Graded, Strict};
-use decoder::Decoder;
-use model::{Banded, DenseTable, Model, Parameters};
+use super::comparison::Comparison;
+use cost::{CostKind, Graded, Shown, Strict};
+use model::{Banded, Costs, DenseTable, Model, Parameters};
+use reference::Progress;
 use reference::full_table::FullTable;
 
-// A log with the answers that it should have: the modes and the total of its cheapest path, and the numbers of decided
-// readings and of live cells after each accepted reading.
+// A log with the answers that it should have: the modes and the total of its cheapest path, and how many readings are
+// decided and how many cells are live after each accepted reading.
 #[derive(Clone, Copy)]
 struct Log<'a> {
     name: &'a str,
     readings: &'a [u8],
     modes: &'a [usize],
-    breaches: u64,
-    penalty: u64,
-    decided: &'a [usize],
-    live: &'a [usize],
+    total: Shown,
+    after: &'a [Progress],
+}
+
+const fn after(decided: usize, live: usize) -> Progress {
+    Progress { decided, live }
+}
+
+const fn total(breaches: u64, penalty: u64) -> Shown {
+    Shown { breaches, penalty }
 }
 
 /// The saw: two modes whose centres are 2 and 7.
@@ -32,78 +38,80 @@ pub(crate) const SAW: Parameters = Parameters {
 
 // Prints a log and what the full table finds in it, and notes whether that is as expected.
 fn show<M: Model, C: CostKind>(
-    rt: &HostRuntime,
-    score: &mut Score,
-    decoder: &mut Decoder,
-    model: &M,
-    kind: &C,
+    comparison: &mut Comparison,
+    costs: &Costs<M, C>,
     log: &Log,
 ) -> anyhow::Result<()> {
+    let heap = comparison.heap();
     let name = log.name;
     let readings = log.readings;
-    println!(rt; "{name}: readings {readings:?}")?;
-    let mut table = FullTable::new(rt.alloc(), model.modes());
-    let mut decided = Vec::new(rt.alloc());
-    let mut live = Vec::new(rt.alloc());
+    println!(comparison.rt; "{name}: readings {readings:?}")?;
+    let mut table = FullTable::new(heap, costs.model.modes());
+    let mut found = Vec::new(heap);
     for (place, value) in readings.iter().enumerate() {
-        if !table.push(model, kind, usize::from(*value))? {
-            println!(rt; "  no mode is reachable with the reading at {place}")?;
+        if !table.push(costs, usize::from(*value))? {
+            println!(comparison.rt; "  no mode is reachable with the reading at {place}")?;
             break;
         }
-        let progress = table.progress()?;
-        decided.push(progress.decided)?;
-        live.push(progress.live)?;
+        found.push(table.progress()?)?;
     }
-    println!(rt; "  decided {decided:?}, live cells {live:?}")?;
-    let found = table.decode(kind)?;
-    let modes = found.modes.as_slice();
-    let total = kind.shown(found.total);
-    let breaches = total.breaches;
-    let penalty = total.penalty;
-    println!(rt; "  modes {modes:?}, total {breaches} and {penalty}")?;
-    let counts = decided.as_slice() == log.decided && live.as_slice() == log.live;
-    let path = modes == log.modes && breaches == log.breaches && penalty == log.penalty;
-    let engine = engine::agrees(rt, decoder, model, kind, readings)?;
+    let decided: Vec<usize> = found.iter().map(|p| p.decided).collect(heap)?;
+    let live: Vec<usize> = found.iter().map(|p| p.live).collect(heap)?;
+    println!(comparison.rt; "  decided {decided:?}, live cells {live:?}")?;
+    let path = table.decode(costs.kind)?;
+    let modes = path.modes.as_slice();
+    let total = costs.kind.shown(path.total);
+    println!(comparison.rt; "  modes {modes:?}, total {total}")?;
+    let engine = comparison.agrees(costs, readings)?;
     let same = if engine { "the same" } else { "NOT the same" };
-    println!(rt; "  the engine: {same}")?;
-    score.note(rt, counts && path && engine)
+    println!(comparison.rt; "  the engine: {same}")?;
+    let expected = found.as_slice() == log.after && modes == log.modes && total == log.total;
+    comparison.note(expected && engine)
 }
 
 /// A log of the saw, and one of no readings.
-pub(crate) fn saw_logs(
-    rt: &HostRuntime,
-    score: &mut Score,
-    decoder: &mut Decoder,
-) -> anyhow::Result<()> {
+pub(crate) fn saw_logs(comparison: &mut Comparison) -> anyhow::Result<()> {
     let saw = Banded::new(SAW);
     let cut = Log {
         name: "saw under Strict",
         readings: &[2, 2, 7, 7, 7],
         modes: &[0, 0, 1, 1, 1],
-        breaches: 0,
-        penalty: 4,
-        decided: &[0, 1, 2, 2, 4],
-        live: &[2, 2, 2, 4, 2],
+        total: total(0, 4),
+        after: &[
+            after(0, 2),
+            after(1, 2),
+            after(2, 2),
+            after(2, 4),
+            after(4, 2),
+        ],
     };
-    show(rt, score, decoder, &saw, &Strict {}, &cut)?;
+    show(
+        comparison,
+        &Costs {
+            model: &saw,
+            kind: &Strict {},
+        },
+        &cut,
+    )?;
     let empty = Log {
         name: "no readings under Strict",
         readings: &[],
         modes: &[],
-        breaches: 0,
-        penalty: 0,
-        decided: &[],
-        live: &[],
+        total: total(0, 0),
+        after: &[],
     };
-    show(rt, score, decoder, &saw, &Strict {}, &empty)
+    show(
+        comparison,
+        &Costs {
+            model: &saw,
+            kind: &Strict {},
+        },
+        &empty,
+    )
 }
 
 /// Logs with equally cheap paths: the lower mode at the latest difference wins.
-pub(crate) fn tie_logs(
-    rt: &HostRuntime,
-    score: &mut Score,
-    decoder: &mut Decoder,
-) -> anyhow::Result<()> {
+pub(crate) fn tie_logs(comparison: &mut Comparison) -> anyhow::Result<()> {
     let even = Banded::new(Parameters {
         hop: 0,
         rate: 0,
@@ -114,12 +122,17 @@ pub(crate) fn tie_logs(
         name: "free passages under Strict",
         readings: &[4, 6],
         modes: &[0, 1],
-        breaches: 0,
-        penalty: 2,
-        decided: &[0, 1],
-        live: &[2, 2],
+        total: total(0, 2),
+        after: &[after(0, 2), after(1, 2)],
     };
-    show(rt, score, decoder, &even, &Strict {}, &free)?;
+    show(
+        comparison,
+        &Costs {
+            model: &even,
+            kind: &Strict {},
+        },
+        &free,
+    )?;
     let wide = Banded::new(Parameters {
         modes: 3,
         hop: 0,
@@ -131,44 +144,62 @@ pub(crate) fn tie_logs(
         name: "three modes under Strict",
         readings: &[0, 8],
         modes: &[0, 1],
-        breaches: 0,
-        penalty: 5,
-        decided: &[0, 0],
-        live: &[3, 5],
+        total: total(0, 5),
+        after: &[after(0, 3), after(0, 5)],
     };
-    show(rt, score, decoder, &wide, &Strict {}, &three)?;
+    show(
+        comparison,
+        &Costs {
+            model: &wide,
+            kind: &Strict {},
+        },
+        &three,
+    )?;
     let graded = Log {
         name: "three modes under Graded",
         ..three
     };
-    show(rt, score, decoder, &wide, &Graded {}, &graded)
+    show(
+        comparison,
+        &Costs {
+            model: &wide,
+            kind: &Graded {},
+        },
+        &graded,
+    )
 }
 
 /// Logs of a table whose only passage has a breach.
-pub(crate) fn breach_logs(
-    rt: &HostRuntime,
-    score: &mut Score,
-    decoder: &mut Decoder,
-) -> anyhow::Result<()> {
+pub(crate) fn breach_logs(comparison: &mut Comparison) -> anyhow::Result<()> {
     let table = DenseTable::new(1, 1, &[0, 65536, 0]);
     let barred = Log {
         name: "a breach under Strict",
         readings: &[0, 0],
         modes: &[0],
-        breaches: 0,
-        penalty: 0,
-        decided: &[1],
-        live: &[0],
+        total: total(0, 0),
+        after: &[after(1, 0)],
     };
-    show(rt, score, decoder, &table, &Strict {}, &barred)?;
+    show(
+        comparison,
+        &Costs {
+            model: &table,
+            kind: &Strict {},
+        },
+        &barred,
+    )?;
     let counted = Log {
         name: "a breach under Graded",
         readings: &[0, 0],
         modes: &[0, 0],
-        breaches: 1,
-        penalty: 0,
-        decided: &[1, 2],
-        live: &[0, 0],
+        total: total(1, 0),
+        after: &[after(1, 0), after(2, 0)],
     };
-    show(rt, score, decoder, &table, &Graded {}, &counted)
+    show(
+        comparison,
+        &Costs {
+            model: &table,
+            kind: &Graded {},
+        },
+        &counted,
+    )
 }
