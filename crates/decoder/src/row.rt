@@ -21,6 +21,7 @@ pub fn next_row<M: Model, C: CostKind>(
     ensures backed { BackedAfter taken (modes rows.old) (present rows.old) from.new }
     ensures kept { Kept rows.old rows.new }
 {
+    // The number of readings taken says which of the two steps it is; a type for each would repeat the count.
     if taken == 0 {
         return rows.first(costs, reading, from);
     }

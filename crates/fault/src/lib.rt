@@ -4,6 +4,7 @@
 ghost use Rattle.std.specs.Prelude.{◌≡◌};
 ghost use Rattle.fault.specs.Table.{row};
 
+use std::error::Error;
 use std::fmt;
 
 /// The layer that refuses.
@@ -175,6 +176,8 @@ impl fmt::Display for Fault {
         write!(f, "fault {number} ({layer}, place {place}): {sentence}")
     }
 }
+
+impl Error for Fault {}
 
 #[cfg(test)]
 mod tests;

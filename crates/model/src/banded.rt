@@ -75,7 +75,7 @@ impl Parameters {
 }
 
 /// A model by formulas: passages cost by distance, readings by the distance from their mode's centre.
-#[derive(Clone, Copy)]
+#[derive(Clone, Copy, PartialEq, Eq, Debug)]
 pub struct Banded {
     parameters: Parameters,
     ghost few: { parameters.modes ≤ 32 },

@@ -10,7 +10,7 @@ use fault::Fault;
 
 /// A model by a table of numbers, each breaches × 65,536 + penalty: first the start charge of each mode,
 /// then for each mode its passages to each mode, then for each mode its readings of each value.
-#[derive(Clone, Copy)]
+#[derive(Clone, Copy, PartialEq, Eq, Debug)]
 pub struct DenseTable<'a> {
     modes: usize,
     values: usize,

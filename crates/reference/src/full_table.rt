@@ -88,10 +88,9 @@ impl FullTable {
         ensures modes { self.new.modes ≡ self.old.modes }
         ensures rows { IfOk result (λ b. vec_len self.new.rows ≡ vec_len self.old.rows + (if b then 1 else 0)) }
     {
-        let mut row = Vec::new(self.heap);
-        for mode in 0..self.modes {
-            row.push(self.arrival(costs, mode, value))?;
-        }
+        let row: Vec<Option<Arrival>> = (0..self.modes)
+            .map(|mode| self.arrival(costs, mode, value))
+            .collect(self.heap)?;
         let reachable = row.iter().any(|arrival| arrival.is_some());
         if reachable {
             self.rows.push(row)?;

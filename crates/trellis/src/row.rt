@@ -75,7 +75,7 @@ pub fn begin<M: Model, C: CostKind>(costs: &Costs<M, C>, reading: usize, t: usiz
 }
 
 /// Writes the way into each mode, as `way` tells it: its total into `new`, and the mode that it comes from into `from`.
-/// Answers whether a mode is reachable.
+/// Answers whether a mode is reachable; both arrays are written in place, whatever the answer is.
 pub fn fill<F: Fn(usize) -> Option<Best>>(
     modes: Modes,
     new: &mut Row,
@@ -87,6 +87,7 @@ pub fn fill<F: Fn(usize) -> Option<Best>>(
     ensures rest { drop modes.count new.new ≡ drop modes.count new.old }
 {
     let mut any = false;
+    // By index: of arrays that two `iter_mut` in a `zip` write, a proof knows nothing.
     for t in 0..modes.count {
         let best = way(t);
         new[t] = best.map(|b| b.total);
