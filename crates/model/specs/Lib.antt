@@ -1,3 +1,4 @@
 pub mod Meaning
 pub mod Banded
 pub mod Dense
+pub mod Made

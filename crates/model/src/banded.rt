@@ -97,7 +97,9 @@ impl Banded {
 }
 
 impl ModeModel for Banded {
-    ghost meaning = { λ b. banded b.parameters };
+    ghost use Rattle.model.specs.Made.{meaning_of_banded};
+
+    ghost meaning = { meaning_of_banded };
 
     ghost outside = { λ b. within_outside _ _ _ _ _ };
 

@@ -72,7 +72,9 @@ impl<'a> DenseTable<'a> {
 }
 
 impl<'a> ModeModel for DenseTable<'a> {
-    ghost meaning = { λ d. dense d.modes d.values d.numbers.now };
+    ghost use Rattle.model.specs.Made.{meaning_of_table};
+
+    ghost meaning = { meaning_of_table };
 
     ghost outside = { λ d. within_outside _ _ _ _ _ };
 

@@ -1,5 +1,6 @@
 //! Viterbi's algorithm over a table with a row for every reading.
 ghost use Rattle.std.specs.Prelude.{◌≡◌, ◌+◌, ◌≤◌, IfOk, if◌then◌else◌, vec_len};
+ghost use Rattle.reference.specs.Table.{modes, accepted};
 
 use super::{Decoded, Progress};
 use cost::{CostKind, Total};
@@ -24,7 +25,8 @@ pub struct FullTable {
 impl FullTable {
     /// A table without readings, for a model of `count` modes.
     pub fn new(heap: Global, count: usize) -> FullTable
-        ensures { (result.modes ≡ count) × (vec_len result.rows ≡ 0) }
+        ensures modes { modes result ≡ count }
+        ensures rows { accepted result ≡ 0 }
     {
         FullTable {
             heap,
@@ -85,8 +87,8 @@ impl FullTable {
         costs: &Costs<M, C>,
         value: usize,
     ) -> Result<bool, AllocError>
-        ensures modes { self.new.modes ≡ self.old.modes }
-        ensures rows { IfOk result (λ b. vec_len self.new.rows ≡ vec_len self.old.rows + (if b then 1 else 0)) }
+        ensures modes { modes self.new ≡ modes self.old }
+        ensures rows { IfOk result (λ b. accepted self.new ≡ accepted self.old + (if b then 1 else 0)) }
     {
         let row: Vec<Option<Arrival>> = (0..self.modes)
             .map(|mode| self.arrival(costs, mode, value))
@@ -100,7 +102,7 @@ impl FullTable {
 
     // The path to a mode, from the last reading back.
     fn path(&self, mode: usize) -> Result<Vec<usize>, AllocError>
-        ensures { IfOk result (λ p. vec_len p ≡ vec_len self.now.rows) }
+        ensures { IfOk result (λ p. vec_len p ≡ accepted self.now) }
     {
         let mut path = Vec::new(self.heap);
         let mut mode = mode;
@@ -141,7 +143,7 @@ impl FullTable {
 
     /// The cheapest path of the log, with its total.
     pub fn decode<C: CostKind>(&self, kind: &C) -> Result<Decoded, AllocError>
-        ensures { IfOk result (λ d. vec_len d.modes ≡ vec_len self.now.rows) }
+        ensures { IfOk result (λ d. vec_len d.modes ≡ accepted self.now) }
     {
         let end = self.end(kind);
         let last = end.and_then(|way| way.before).unwrap_or(0);
@@ -152,7 +154,7 @@ impl FullTable {
 
     /// How many readings are decided, and how many cells are live.
     pub fn progress(&self) -> Result<Progress, AllocError>
-        ensures { IfOk result (λ p. p.decided ≤ vec_len self.now.rows) }
+        ensures { IfOk result (λ p. p.decided ≤ accepted self.now) }
     {
         let paths = self.paths()?;
         let decided = self
