@@ -11,23 +11,10 @@ use Rattle.survivors.specs.declared.tree.Tree.{Tree}
 use Rattle.survivors.specs.declared.Survivors.{Survivors}
 
 shape_prop : (cs : List Cell) (base top : ℕ) → IsProp (Shape cs base top)
-shape_prop cs base top a b =
-    let p_span : IsProp (base ≤ top) = hlevel props in
-    let p_low : IsProp ((x : ℕ) → x < 1024 → 0 < (at cs x).refs → base ≤ (at cs x).layer) = hlevel props in
-    let p_high : IsProp ((x : ℕ) → x < 1024 → 0 < (at cs x).refs → (at cs x).layer ≤ top) = hlevel props in
-    let p_up : IsProp ((x : ℕ) → x < 1024 → 0 < (at cs x).refs → base < (at cs x).layer → (at cs x).parent < 1024) = hlevel props in
-    let p_step : IsProp ((x : ℕ) → x < 1024 → 0 < (at cs x).refs → base < (at cs x).layer → (at cs (at cs x).parent).layer + 1 ≡ (at cs x).layer) = hlevel props in
-    let p_small : IsProp ((x : ℕ) → x < 1024 → 0 < (at cs x).refs → (at cs x).mode < 32) = hlevel props in
-    let p_lone : IsProp ((x y : ℕ) → x < 1024 → y < 1024 → 0 < (at cs x).refs → 0 < (at cs y).refs → (at cs x).layer ≡ (at cs y).layer → (at cs x).mode ≡ (at cs y).mode → x ≡ y) = Π_prop (λ x. Π_prop (λ y. Π_prop (λ _. Π_prop (λ _. Π_prop (λ _. Π_prop (λ _. Π_prop (λ _. Π_prop (λ _. ≡_prop coded_ℕ x y)))))))) in
-    λ i. record { span = p_span a.span b.span i; low = p_low a.low b.low i; high = p_high a.high b.high i; up = p_up a.up b.up i; step = p_step a.step b.step i; small = p_small a.small b.small i; lone = p_lone a.lone b.lone i }
+shape_prop cs base top = hlevel props
 
 stack_prop : (cs : List Cell) (free : List ℕ) → IsProp (Stack cs free)
-stack_prop cs free a b =
-    let p_live : IsProp (length free + in_use cs ≡ 1024) = hlevel props in
-    let p_below : IsProp ((k : ℕ) → k < length free → get_or free k 0 < 1024) = hlevel props in
-    let p_empty : IsProp ((k : ℕ) → k < length free → (at cs (get_or free k 0)).refs ≡ 0) = hlevel props in
-    let p_apart : IsProp ((j k : ℕ) → j < k → k < length free → get_or free j 0 ≢ get_or free k 0) = hlevel props in
-    λ i. record { live = p_live a.live b.live i; below = p_below a.below b.below i; empty = p_empty a.empty b.empty i; apart = p_apart a.apart b.apart i }
+stack_prop cs free = hlevel props
 
 tree_prop : (cs : List Cell) (free : List ℕ) (base top width first : ℕ) (held' : ℕ → ℕ) → IsProp (Links cs free base top width first held')
 tree_prop cs free base top width first held' a b =

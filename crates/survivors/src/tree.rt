@@ -93,22 +93,21 @@ impl Tree {
         requires real { cell < 1024 }
         ensures { Released self.old cell self.new }
     {
-        let mut c = cell as usize;
+        let mut c = cell;
         'up: loop {
-            let old = self.cells[c];
-            self.cells[c].refs = old.refs - 1;
+            let old = self.cells[c as usize];
+            self.cells[c as usize].refs = old.refs - 1;
             if old.refs > 1 {
                 return;
             }
-            self.free.push(c as u16);
+            self.free.push(c);
             if old.layer == self.base {
                 self.width -= 1;
                 self.first -= c as u32;
                 return;
             }
-            let p = old.parent as usize;
-            self.cells[p].heirs -= c as u32;
-            c = p;
+            self.cells[old.parent as usize].heirs -= c as u32;
+            c = old.parent;
         }
     }
 
