@@ -8,7 +8,6 @@ use Rattle.survivors.specs.Cells.{at, path}
 use Rattle.survivors.specs.Trees.{tip_at}
 use Rattle.survivors.specs.Survivors.{HasTip, OnPath, decided, path_to, taken}
 use Rattle.survivors.specs.declared.Survivors.{Survivors}
-use Rattle.survivors.proofs.Props.{valid}
 use Rattle.survivors.proofs.Decides.{path_is}
 use Rattle.survivors.proofs.Tips.{some_or_none, tip_below as below}
 use Rattle.viterbi.proofs.Count.{counted_one}
@@ -28,24 +27,24 @@ has_tip s u c e = rw e refl
 
 -- the decided readings were taken
 pub decided_taken : (s : Survivors) → decided s ≤ taken s
-decided_taken s = (valid s).holds.shape.span
+decided_taken s = s.valid.holds.shape.span
 
 -- only the first 32 modes have tips
 pub tip_below : (s : Survivors) (u : ℕ) → HasTip s u → u < 32
-tip_below s u h = let f = tip_is s u h in omega (arith, below s.tips u f.0 f.1, (valid s).many)
+tip_below s u h = let f = tip_is s u h in omega (arith, below s.tips u f.0 f.1, s.valid.many)
 
 -- a mode has a tip only while some reading is undecided
 pub tip_undecided : (s : Survivors) (u : ℕ) → HasTip s u → decided s < taken s
 tip_undecided s u h = ⊎_elim
     (λ (l : decided s < taken s). l)
-    (λ (l : taken s ≤ decided s). let f = tip_is s u h in absurd ((valid s).none (omega (arith, decided_taken s)) u f.0 f.1))
+    (λ (l : taken s ≤ decided s). let f = tip_is s u h in absurd (s.valid.none (omega (arith, decided_taken s)) u f.0 f.1))
     (cases_lt (decided s) (taken s))
 
 -- and then some mode has one
 pub some_tip : (s : Survivors) → decided s < taken s → (u : ℕ) × HasTip s u
 some_tip s l = ⊎_elim
     (λ (f : (u : ℕ) × (c : ℕ) × (tip_at s.tips u ≡ Some c)). (f.0, has_tip s f.0 f.1 f.2))
-    (λ none. absurd ((valid s).any l none))
+    (λ none. absurd (s.valid.any l none))
     (some_or_none s.tips)
 
 -- a path has a mode for each undecided reading
@@ -64,14 +63,14 @@ path_to_ends s u h =
     let c = f.0 in
     let n = taken s - (decided s + 1) in
     let e : taken s - decided s ≡ suc n = omega (arith, tip_undecided s u h) in
-    let m : (at cs c).mode ≡ u = (valid s).ends u c f.1 in
+    let m : (at cs c).mode ≡ u = s.valid.ends u c f.1 in
     (path cs n (at cs c).parent, path_is s.tree s.tips u c f.1 ∙ ap (λ (k : ℕ). path cs k c) e ∙ ap (λ (y : ℕ). path cs n (at cs c).parent ++ y ∷ []) m)
 
 -- the cells that are not free are the live ones
 pub live_cells_lem : (s : Survivors) (n : ℕ) → length s.tree.free.items + n ≡ 1024 → Counted (OnPath s) n
 live_cells_lem s n e =
     let cs = s.tree.cells in
-    let r = valid s in
+    let r = s.valid in
     record {
       pairs = spots cs 1024;
       many = omega (arith, spots_many cs 1024, r.holds.stack.live);
@@ -102,5 +101,5 @@ live_cells_lem s n e =
 -- free and live cells are 1,024 together
 pub room_live : (s : Survivors) (n : ℕ) → Counted (OnPath s) n → length s.tree.free.items + n ≡ 1024
 room_live s n k =
-    let full = (valid s).holds.stack.live in
+    let full = s.valid.holds.stack.live in
     omega (arith, counted_one (OnPath s) n (1024 - length s.tree.free.items) k (live_cells_lem s (1024 - length s.tree.free.items) (omega (arith, full))), full)

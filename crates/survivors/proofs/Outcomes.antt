@@ -7,7 +7,6 @@ use Rattle.survivors.specs.Ring.{Written}
 use Rattle.survivors.specs.Trees.{Apart, Layered, Next, Settling, Shed, path_of, tip_at}
 use Rattle.survivors.specs.Survivors.{Blank, Finished, Grown, HasTip, MayGrow, OnPath, PathOf, Settled, decided, path_to, taken}
 use Rattle.survivors.specs.declared.Survivors.{Survivors}
-use Rattle.survivors.proofs.Props.{valid}
 use Rattle.survivors.proofs.Lists.{before_fork}
 use Rattle.survivors.proofs.Rings.{written_none}
 use Rattle.survivors.proofs.Tips.{none_some}
@@ -17,7 +16,7 @@ use Rattle.survivors.proofs.Laws.{tip_is, has_tip, some_tip, decided_taken, path
 -- what `grow` needs of the tree
 pub next_of : (s : Survivors) (preds : List (Option ℕ)) → MayGrow s preds → Next s.tree s.tips preds
 next_of s preds g = record {
-  valid = valid s;
+  valid = s.valid;
   many = g.few;
   room = omega (arith, room_live s g.room.0 g.room.1, g.room.2);
   bound = g.bound;
@@ -37,7 +36,7 @@ grown_of s preds t g = record {
 
 -- without undecided readings no mode has a tip
 no_tips : (t : Survivors) → decided t ≡ taken t → (u : ℕ) → HasTip t u → ⊥
-no_tips t e u h = let f = tip_is t u h in (valid t).none e u f.0 f.1
+no_tips t e u h = let f = tip_is t u h in t.valid.none e u f.0 f.1
 
 no_live : (t : Survivors) → ((u : ℕ) → HasTip t u → ⊥) → Counted (OnPath t) 0
 no_live t none = record { pairs = []; many = refl; once = tt; all = λ i m o. absurd (none o.to o.tip); only = λ i m h. absurd h }
@@ -110,15 +109,15 @@ finished_of s best c e s' d a ring t ring' g =
     }
   where
     tip : HasTip s' best
-    tip = has_tip s' best c (ap (λ (z : List (Option ℕ)). tip_at z best) a ∙ here s.tree s.tips (valid s) best c e s'.tree d)
+    tip = has_tip s' best c (ap (λ (z : List (Option ℕ)). tip_at z best) a ∙ here s.tree s.tips s.valid best c e s'.tree d)
 
     only : (q : List ℕ) → PathOf s' q → q ≡ path_to s' best
     only q f =
         let k = tip_is s' f.0 f.1 in
-        f.2 ∙ ap (path_to s') (is_best s.tree s.tips (valid s) best c e s'.tree d f.0 k.0 (ap (λ (z : List (Option ℕ)). tip_at z f.0) (sym a) ∙ k.1)).0
+        f.2 ∙ ap (path_to s') (is_best s.tree s.tips s.valid best c e s'.tree d f.0 k.0 (ap (λ (z : List (Option ℕ)). tip_at z f.0) (sym a) ∙ k.1)).0
 
     path_same : path_to s' best ≡ path_to s best
-    path_same = ap (λ (z : List (Option ℕ)). path_of s'.tree z best) a ∙ alone_path s.tree s.tips (valid s) best c e s'.tree d
+    path_same = ap (λ (z : List (Option ℕ)). path_of s'.tree z best) a ∙ alone_path s.tree s.tips s.valid best c e s'.tree d
 
     out : taken t ≤ decided t → g.out ≡ path_to s best
     out l = sym (append-nil g.out) ∙ ap (λ (z : List ℕ). g.out ++ z) (sym (path_to_none t best l)) ∙ sym (g.paths best tip) ∙ path_same

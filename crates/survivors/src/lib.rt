@@ -14,7 +14,7 @@ pub struct Survivors {
     tree: Tree,
     /// For each mode the cell of the newest layer that its path ends in.
     tips: [Option<u16>; 32],
-    ghost valid: { ∥ Valid tree tips ∥₁ },
+    ghost valid: { Valid tree tips },
 }
 
 #[cfg(test)]

@@ -1,7 +1,6 @@
 use Rattle.std.proofs.Common.{ℕ, set, replicate, None, Option, sym, ap, ◌∙◌, subst, arith}
 use Rattle.survivors.specs.Cells.{plus}
 use Rattle.survivors.specs.Trees.{Holds, Real, Shed, Valid, both}
-use Rattle.survivors.proofs.Props.{valid}
 use Rattle.survivors.proofs.Laws.{tip_is}
 use Rattle.survivors.proofs.Finishes.{shed_by, cut_real, alone_valid}
 use Rattle.survivors.proofs.Outcomes.{finished_of, finished_none}
@@ -12,8 +11,8 @@ shed-requires c =
     let s = c.args.self.now in
     let f = tip_is s c.args.best (c.requires c.if-self.true) in
     record {
-      held = (_, subst (λ (z : Option ℕ). Holds s.tree (both (set s.tips c.args.best z) (plus (λ _. 0) f.0))) (sym c.take-tip.ensures.after) (shed_by s.tree s.tips (valid s) c.args.best f.0 f.1));
-      real = subst (λ (z : Option ℕ). Real (set s.tips c.args.best z)) (sym c.take-tip.ensures.after) (cut_real s.tree s.tips (valid s) c.args.best f.0 f.1);
+      held = (_, subst (λ (z : Option ℕ). Holds s.tree (both (set s.tips c.args.best z) (plus (λ _. 0) f.0))) (sym c.take-tip.ensures.after) (shed_by s.tree s.tips s.valid c.args.best f.0 f.1));
+      real = subst (λ (z : Option ℕ). Real (set s.tips c.args.best z)) (sym c.take-tip.ensures.after) (cut_real s.tree s.tips s.valid c.args.best f.0 f.1);
     }
 
 pub invariant_of-self : goal.invariant_of-self
@@ -23,7 +22,7 @@ invariant_of-self c =
     let t = c.shed.new.self in
     let d = subst (λ (z : Option ℕ). Shed s.tree (set s.tips c.args.best z) t) c.take-tip.ensures.after c.shed.ensures in
     let a = ap (set (replicate 32 None) c.args.best) (c.take-tip.ensures.value ∙ f.1) in
-    record { valid = ∣ subst (Valid t) (sym a) (alone_valid s.tree s.tips (valid s) c.args.best f.0 f.1 t d) ∣₁ }
+    record { valid = subst (Valid t) (sym a) (alone_valid s.tree s.tips s.valid c.args.best f.0 f.1 t d) }
 
 pub returns-then-self : goal.returns-then-self
 returns-then-self c =

@@ -5,7 +5,7 @@ pub grow-self-requires : goal.grow-self-requires
 grow-self-requires c = next_of c.args.self.now c.args.preds.now c.requires
 
 pub invariant_of-self : goal.invariant_of-self
-invariant_of-self c = record { valid = ∣ c.grow-self.ensures.valid ∣₁ }
+invariant_of-self c = record { valid = c.grow-self.ensures.valid }
 
 pub returns : goal.returns
 returns c = grown_of c.args.self.now c.args.preds.now _ c.grow-self.ensures

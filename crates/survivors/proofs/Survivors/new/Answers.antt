@@ -3,7 +3,7 @@ use Rattle.survivors.proofs.Outcomes.{blank_of}
 use Rattle.survivors.proofs.Survivors.new.Goals as goal
 
 pub invariant_of-result : goal.invariant_of-result
-invariant_of-result c = record { valid = ∣ blank_valid _ c.new-tree.ensures ∣₁ }
+invariant_of-result c = record { valid = blank_valid _ c.new-tree.ensures }
 
 pub returns : goal.returns
 returns c = blank_of _ c.new-tree.ensures.top c.new-tree.ensures.base
