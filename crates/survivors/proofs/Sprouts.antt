@@ -1,9 +1,9 @@
 -- One turn of `sprout`, and the tree after `grow`.
-use Rattle.std.proofs.Common.{◌≡◌, ℕ, zero, suc, ◌+◌, ◌-◌, ◌<◌, ◌≤◌, ◌≢◌, ◌⊎◌, List, [], ◌∷◌, ◌++◌, length, set, replicate, Some, None, Option, sym, refl, ap, ◌∙◌, subst, inl, inr, ⊎_elim, arith}
+use Rattle.std.proofs.Common.{◌≡◌, ℕ, zero, suc, ◌+◌, ◌-◌, ◌<◌, ◌≤◌, ◌≢◌, ◌⊎◌, List, [], ◌∷◌, ◌++◌, length, get_or, set, replicate, Some, None, Option, sym, refl, ap, ◌∙◌, subst, inl, inr, ⊎_elim, arith}
 use Rattle.std.proofs.lemmas.Bool.{cases_eq, cases_lt}
 use Rattle.std.proofs.lemmas.List.{get_or-set_same, get_or-set_other, length-set, length-replicate}
 use Rattle.survivors.specs.Cells.{at, one, owner, path, under}
-use Rattle.survivors.specs.Trees.{Attached, Holds, Layered, Next, Ready, Shed, Sprout, Valid, both, from_at, held, path_of, tip_at}
+use Rattle.survivors.specs.Trees.{Attached, Holds, Layered, Next, Ready, Shed, Sprout, Valid, both, held, path_of, tip_at}
 use Rattle.survivors.specs.declared.tree.Cell.{Cell}
 use Rattle.survivors.specs.declared.tree.Tree.{Tree}
 use Rattle.survivors.proofs.Shares.{links_held, owner_parent, owner_used}
@@ -14,7 +14,7 @@ module _ (o : Tree) (tips preds : List (Option ℕ)) (x : Next o tips preds) (n 
   n_few : n < 32
   n_few = omega (arith, x.many)
 
-  pub skip : from_at preds n ≡ None → Sprout o tips preds (n + 1) s new
+  pub skip : get_or preds n None ≡ None → Sprout o tips preds (n + 1) s new
   skip none = record {
     holds = g.holds;
     many = g.many;
@@ -29,7 +29,7 @@ module _ (o : Tree) (tips preds : List (Option ℕ)) (x : Next o tips preds) (n 
     parent = g.parent;
     mode = g.mode;
     reach = λ u p m e. ⊎_elim
-        (λ (q : u ≡ n). absurd (none_some (sym none ∙ sym (ap (from_at preds) q) ∙ e)))
+        (λ (q : u ≡ n). absurd (none_some (sym none ∙ sym (ap (λ (v : ℕ). get_or preds v None) q) ∙ e)))
         (λ (ne : u ≡ n → ⊥). g.reach u p (omega arith) e)
         (cases_eq u n);
     unreach = g.unreach;
@@ -38,7 +38,7 @@ module _ (o : Tree) (tips preds : List (Option ℕ)) (x : Next o tips preds) (n 
     new_mode = g.new_mode;
   }
 
-  module _ (p : ℕ) (is : from_at preds n ≡ Some p) where
+  module _ (p : ℕ) (is : get_or preds n None ≡ Some p) where
     deep : (c : ℕ) → tip_at tips p ≡ Some c → o.base < o.top
     deep c e = ⊎_elim
         (λ (k : o.base < o.top). k)
@@ -83,7 +83,7 @@ module _ (o : Tree) (tips preds : List (Option ℕ)) (x : Next o tips preds) (n 
           (λ (ne : u ≡ n → ⊥). let f = g.reach u q (omega arith) e in (f.0, other u ne ∙ f.1))
           (cases_eq u n);
       unreach = λ u e. ⊎_elim
-          (λ (k : u ≡ n). absurd (none_some (sym e ∙ ap (from_at preds) k ∙ is)))
+          (λ (k : u ≡ n). absurd (none_some (sym e ∙ ap (λ (v : ℕ). get_or preds v None) k ∙ is)))
           (λ (ne : u ≡ n → ⊥). other u ne ∙ g.unreach u e)
           (cases_eq u n);
       new_layer = λ u c e. each (λ v d. (at t.cells d).layer ≡ o.top) (a.new_layer ∙ g.top)
@@ -91,7 +91,7 @@ module _ (o : Tree) (tips preds : List (Option ℕ)) (x : Next o tips preds) (n 
       new_parent = λ u c q r e f h. ⊎_elim
           (λ (k : u ≡ n).
           let ci : c ≡ i = same u c k e in
-          let pq : p ≡ q = let z : Some p ≡ Some q = sym is ∙ sym (ap (from_at preds) k) ∙ f in cc in
+          let pq : p ≡ q = let z : Some p ≡ Some q = sym is ∙ sym (ap (λ (v : ℕ). get_or preds v None) k) ∙ f in cc in
           rw ci (a.new_parent r (ap (tip_at tips) pq ∙ h)))
           (λ (ne : u ≡ n → ⊥). let e' = sym (other u ne) ∙ e in a.parent c (g.real u c e') (off_new u c e') ∙ g.new_parent u c q r e' f h)
           (cases_eq u n);
@@ -200,7 +200,7 @@ module _ (o : Tree) (tips preds : List (Option ℕ)) (x : Next o tips preds) (s 
     any = λ _ no_tip. let a = x.some in let f = g.reach a.0 a.1 (tip_below preds a.0 a.1 a.2) a.2 in no_tip a.0 f.0 f.1;
   }
 
-  paths_more : (u p : ℕ) → from_at preds u ≡ Some p → path_of fresh new u ≡ path_of o tips p ++ (u ∷ [])
+  paths_more : (u p : ℕ) → get_or preds u None ≡ Some p → path_of fresh new u ≡ path_of o tips p ++ (u ∷ [])
   paths_more u p is =
       let f = g.reach u p (tip_below preds u p is) is in
       let c = f.0 in

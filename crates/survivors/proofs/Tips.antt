@@ -1,10 +1,11 @@
 -- References that the tips hold.
-use Rattle.std.proofs.Common.{◌≡◌, ℕ, zero, suc, ◌+◌, ◌<◌, ◌≤◌, ◌≢◌, ◌⊎◌, List, [], ◌∷◌, length, set, drop, replicate, Some, None, Option, sym, refl, ap, ◌∙◌, inl, inr, ⊎_elim, add-one, drop-cons, arith}
-use Rattle.std.proofs.lemmas.Bool.{cases_eq, cases_lt}
+use Rattle.std.proofs.Common.{◌≡◌, ℕ, zero, suc, ◌+◌, ◌<◌, ◌≤◌, Bool, true, false, cond, eqb, ◌⊎◌, List, [], ◌∷◌, length, set, drop, replicate, Some, None, Option, sym, refl, ap, ◌∙◌, inl, inr, ⊎_elim, arith}
+use Rattle.std.proofs.lemmas.Bool.{cases_eq, cases_lt, ne_eqb}
 use Rattle.std.proofs.lemmas.List.{get_or-set_same, get_or-set_other, get_or_past, set_past, drop_all}
+use Rattle.std.proofs.lemmas.List.Sums.{sum_by-set, sum_by-cons, sum_by-drop_more, count_by-le-length}
 use Rattle.survivors.specs.Cells.{plus}
-use Rattle.survivors.specs.Trees.{Real, both, held, tip_at}
-use Rattle.survivors.proofs.Shares.{plus_here, plus_other}
+use Rattle.survivors.specs.Trees.{Real, both, held, is_cell, tip_at}
+use Rattle.survivors.proofs.Shares.{plus_here}
 
 pub none_some : {x : ℕ} → None ≡ Some x → ⊥
 none_some e = let z : ◌≡◌ {A = ℕ} 0 1 = cc in omega arith
@@ -37,87 +38,79 @@ blank_at zero u = refl
 blank_at (suc n) zero = refl
 blank_at (suc n) (suc u) = blank_at n u
 
-pub plus_add : (h : ℕ → ℕ) (c x : ℕ) → plus h c x ≡ h x + plus (λ _. 0) c x
-plus_add h c x = ⊎_elim
-    (λ (e : x ≡ c). rw e (omega (arith, plus_here h c, plus_here (λ _. 0) c)))
-    (λ (ne : x ≡ c → ⊥). omega (arith, plus_other h c x ne, plus_other (λ _. 0) c x ne))
+-- 1 where a tip is the cell x, and else 0
+abbrev bit : ℕ → Option ℕ → ℕ
+bit x o = cond (is_cell x o) 1 0
+
+pub plus_add : (h : ℕ → ℕ) (c x : ℕ) → plus h c x ≡ h x + bit x (Some c)
+plus_add h c x = step (eqb x c)
+  where
+    step : (b : Bool) → cond b (h x + 1) (h x) ≡ h x + cond b 1 0
+    step true = refl
+    step false = omega arith
+
+bit_some : (x : ℕ) (o : Option ℕ) → 0 < bit x o → o ≡ Some x
+bit_some x None l = absurd (omega arith)
+bit_some x (Some c) l = ⊎_elim
+    (λ (e : x ≡ c). ap Some (sym e))
+    (λ (ne : x ≡ c → ⊥). absurd (let b : bit x (Some c) ≡ 0 = rw (ne_eqb x c ne) refl in omega (arith, b)))
     (cases_eq x c)
+
+-- one tip is written
+held_set : (tips : List (Option ℕ)) (j x : ℕ) (o p : Option ℕ) → j < length tips → tip_at tips j ≡ o → held (set tips j p) x + bit x o ≡ held tips x + bit x p
+unfolding held
+held_set tips j x o p l e = rw e at (sum_by-set (bit x) tips j p None l)
+
+-- the tips from the place k on
+held_on : (tips : List (Option ℕ)) (k x : ℕ) (o : Option ℕ) → k < length tips → tip_at tips k ≡ o → held (drop k tips) x ≡ bit x o + held (drop (k + 1) tips) x
+unfolding held
+held_on tips k x o l e = rw e at (sum_by-drop_more (bit x) tips k None l)
+
+held_nil : (tips : List (Option ℕ)) (x : ℕ) → tips ≡ [] → held tips x ≡ 0
+unfolding held
+held_nil tips x e = rw e refl
+
+held_cons : (o : Option ℕ) (tips : List (Option ℕ)) (x : ℕ) → held (o ∷ tips) x ≡ bit x o + held tips x
+unfolding held
+held_cons o tips x = sum_by-cons (bit x) o tips
+
+pub held_bound : (tips : List (Option ℕ)) (x : ℕ) → held tips x ≤ length tips
+unfolding held
+held_bound tips x = count_by-le-length (is_cell x) tips
 
 -- one tip more
 pub held_put : (tips : List (Option ℕ)) (j v x : ℕ) → j < length tips → tip_at tips j ≡ None → held (set tips j (Some v)) x ≡ plus (held tips) v x
-unfolding held
-held_put [] j v x l e = absurd (omega arith)
-held_put (None ∷ tips) zero v x l e = refl
-held_put (Some c ∷ tips) zero v x l e = absurd (none_some (sym e))
-held_put (None ∷ tips) (suc j) v x l e = held_put tips j v x (omega arith) e
-held_put (Some c ∷ tips) (suc j) v x l e =
-    omega (arith, held_put tips j v x (omega arith) e, plus_add (held (set tips j (Some v))) c x, plus_add (held (Some c ∷ tips)) v x, plus_add (held tips) c x, plus_add (held tips) v x)
+held_put tips j v x l e = omega (arith, held_set tips j x None (Some v) l e, plus_add (held tips) v x)
 
 -- one tip less
 pub held_take : (tips : List (Option ℕ)) (j c x : ℕ) → tip_at tips j ≡ Some c → held tips x ≡ plus (held (set tips j None)) c x
-unfolding held
-held_take [] j c x e = absurd (none_some e)
-held_take (None ∷ tips) zero c x e = absurd (none_some e)
-held_take (Some d ∷ tips) zero c x e = let q : d ≡ c = cc in ap (λ (y : ℕ). plus (held tips) y x) q
-held_take (None ∷ tips) (suc j) c x e = held_take tips j c x e
-held_take (Some d ∷ tips) (suc j) c x e =
-    omega (arith, held_take tips j c x e, plus_add (held (set tips j None)) c x, plus_add (held (Some d ∷ set tips j None)) c x, plus_add (held tips) d x, plus_add (held (set tips j None)) d x)
+held_take tips j c x e = omega (arith, held_set tips j x (Some c) None (tip_below tips j c e) e, plus_add (held (set tips j None)) c x)
 
 pub held_some : (tips : List (Option ℕ)) (u c : ℕ) → tip_at tips u ≡ Some c → 0 < held tips c
 held_some tips u c e = omega (arith, held_take tips u c c e, plus_here (held (set tips u None)) c)
 
-pub held_none : (tips : List (Option ℕ)) (x : ℕ) → ((u : ℕ) → tip_at tips u ≡ Some x → ⊥) → held tips x ≡ 0
-unfolding held
-held_none [] x off = refl
-held_none (None ∷ tips) x off = held_none tips x (λ u. off (suc u))
-held_none (Some c ∷ tips) x off =
-    let ne : x ≢ c = λ q. off 0 (ap Some (sym q)) in
-    plus_other (held tips) c x ne ∙ held_none tips x (λ u. off (suc u))
-
-pub held_bound : (tips : List (Option ℕ)) (x : ℕ) → held tips x ≤ length tips
-unfolding held
-held_bound [] x = omega arith
-held_bound (None ∷ tips) x = omega (arith, held_bound tips x)
-held_bound (Some c ∷ tips) x = ⊎_elim
-    (λ (e : x ≡ c). rw e (omega (arith, held_bound tips c, plus_here (held tips) c)))
-    (λ (ne : x ≡ c → ⊥). omega (arith, held_bound tips x, plus_other (held tips) c x ne))
-    (cases_eq x c)
-
 -- what is held is some mode's tip
 pub held_by : (tips : List (Option ℕ)) (x : ℕ) → 0 < held tips x → (u : ℕ) × (tip_at tips u ≡ Some x)
-unfolding held
-held_by [] x l = absurd (omega arith)
-held_by (None ∷ tips) x l = let b = held_by tips x l in (suc b.0, b.1)
-held_by (Some c ∷ tips) x l = ⊎_elim
-    (λ (e : x ≡ c). (0, ap Some (sym e)))
-    (λ (ne : x ≡ c → ⊥). let b = held_by tips x (omega (arith, plus_other (held tips) c x ne)) in (suc b.0, b.1))
-    (cases_eq x c)
+held_by [] x l = absurd (omega (arith, held_nil [] x refl))
+held_by (o ∷ tips) x l = ⊎_elim
+    (λ (k : 0 < bit x o). (0, bit_some x o k))
+    (λ (k : bit x o ≤ 0). let b = held_by tips x (omega (arith, held_cons o tips x)) in (suc b.0, b.1))
+    (cases_lt 0 (bit x o))
 
--- the tips from the place k on, one by one
-held_on : (tips : List (Option ℕ)) (k x : ℕ) (o : Option ℕ) → k < length tips → tip_at tips k ≡ o → held (drop k tips) x ≡ held (o ∷ drop (k + 1) tips) x
-held_on tips k x o l e = rw add-one (ap (λ (z : List (Option ℕ)). held z x) (drop-cons tips k None l ∙ ap (λ (y : Option ℕ). y ∷ drop (suc k) tips) e))
-
-held_none_on : (tips : List (Option ℕ)) (x : ℕ) → held (None ∷ tips) x ≡ held tips x
-unfolding held
-held_none_on tips x = refl
-
-held_some_on : (tips : List (Option ℕ)) (c x : ℕ) → held (Some c ∷ tips) x ≡ plus (held tips) c x
-unfolding held
-held_some_on tips c x = refl
-
-held_nil : (x : ℕ) → held [] x ≡ 0
-unfolding held
-held_nil x = refl
+pub held_none : (tips : List (Option ℕ)) (x : ℕ) → ((u : ℕ) → tip_at tips u ≡ Some x → ⊥) → held tips x ≡ 0
+held_none tips x off = ⊎_elim
+    (λ (k : 0 < held tips x). let b = held_by tips x k in absurd (off b.0 b.1))
+    (λ (k : held tips x ≤ 0). omega arith)
+    (cases_lt 0 (held tips x))
 
 pub from_none : (tips : List (Option ℕ)) (h : ℕ → ℕ) (k : ℕ) → k < length tips → tip_at tips k ≡ None → (x : ℕ) → x < 1024 → both (drop k tips) h x ≡ both (drop (k + 1) tips) h x
-from_none tips h k l e x _ = omega (arith, held_on tips k x None l e, held_none_on (drop (k + 1) tips) x)
+from_none tips h k l e x _ = omega (arith, held_on tips k x None l e)
 
 pub from_some : (tips : List (Option ℕ)) (h : ℕ → ℕ) (k c : ℕ) → k < length tips → tip_at tips k ≡ Some c → (x : ℕ) → x < 1024 → both (drop k tips) h x ≡ plus (both (drop (k + 1) tips) h) c x
-from_some tips h k c l e x _ =
-    omega (arith, held_on tips k x (Some c) l e, held_some_on (drop (k + 1) tips) c x, plus_add (held (drop (k + 1) tips)) c x, plus_add (both (drop (k + 1) tips) h) c x)
+from_some tips h k c l e x _ = omega (arith, held_on tips k x (Some c) l e, plus_add (both (drop (k + 1) tips) h) c x)
 
 pub past : (tips : List (Option ℕ)) (h : ℕ → ℕ) (k : ℕ) → length tips ≤ k → (x : ℕ) → x < 1024 → both (drop k tips) h x ≡ h x
-past tips h k l x _ = omega (arith, ap (λ (z : List (Option ℕ)). held z x) (drop_all k tips l), held_nil x)
+past tips h k l x _ = omega (arith, held_nil (drop k tips) x (drop_all k tips l))
 
 pub real_set : (tips : List (Option ℕ)) (i c : ℕ) → Real tips → c < 1024 → Real (set tips i (Some c))
 real_set tips i c r b u d e = ⊎_elim

@@ -1,5 +1,5 @@
 -- The inner tree and the tips that hold it: the invariant, and what each method keeps and changes.
-use Rattle.std.specs.Prelude.{if◌then◌else◌, ◌≡◌, ℕ, ◌+◌, ◌-◌, ◌^◌, ◌<◌, ◌≤◌, ◌≢◌, List, [], ◌∷◌, ◌++◌, length, Some, None, Option, ◌==◌, slice_index, slice_index_or, unwrap_or}
+use Rattle.std.specs.Prelude.{if◌then◌else◌, ◌≡◌, ℕ, ◌+◌, ◌-◌, ◌^◌, ◌<◌, ◌≤◌, ◌≢◌, Bool, false, List, [], ◌∷◌, ◌++◌, length, Some, None, Option, ◌==◌, slice_index, slice_index_or, unwrap_or, count_by}
 use Rattle.survivors.specs.Ring.{Written}
 use Rattle.survivors.specs.Cells.{Kept, Links, at, path, plus, recount}
 use Rattle.survivors.specs.declared.tree.Tree.{Tree}
@@ -8,19 +8,18 @@ use Rattle.survivors.specs.declared.tree.Tree.{Tree}
 abbrev pub tip_at : List (Option ℕ) → ℕ → Option ℕ
 tip_at tips u = slice_index_or tips u None
 
--- The mode that the mode u goes on from, if it is reachable.
-abbrev pub from_at : List (Option ℕ) → ℕ → Option ℕ
-from_at preds u = slice_index_or preds u None
-
 -- The undecided modes of the path to the mode u, oldest first, where u has a tip.
 abbrev pub path_of : Tree → List (Option ℕ) → ℕ → List ℕ
 path_of s tips u = path s.cells (s.top - s.base) (unwrap_or (tip_at tips u) 0)
 
+-- Whether a tip is the cell x.
+abbrev pub is_cell : ℕ → Option ℕ → Bool
+is_cell x (Some c) = x == c
+is_cell x None = false
+
 -- How many of the tips are the cell x.
 unfoldable pub held : List (Option ℕ) → ℕ → ℕ
-held [] x = 0
-held (None ∷ tips) x = held tips x
-held (Some c ∷ tips) x = plus (held tips) c x
+held tips x = count_by (is_cell x) tips
 
 -- How many references to x are tips or counted by h.
 abbrev pub both : List (Option ℕ) → (ℕ → ℕ) → ℕ → ℕ
@@ -101,9 +100,9 @@ pub record Next (s : Tree) (tips preds : List (Option ℕ)) : Type 0 where
   pub many : length preds ≤ 32
   pub room : length preds ≤ length s.free.items
   pub bound : s.top + 1 < 2 ^ 32
-  pub some : (u : ℕ) × (p : ℕ) × (from_at preds u ≡ Some p)
-  pub mode : (u p : ℕ) → from_at preds u ≡ Some p → p < 32
-  pub from : (u p : ℕ) → from_at preds u ≡ Some p → s.base < s.top → (c : ℕ) × (tip_at tips p ≡ Some c)
+  pub some : (u : ℕ) × (p : ℕ) × (slice_index_or preds u None ≡ Some p)
+  pub mode : (u p : ℕ) → slice_index_or preds u None ≡ Some p → p < 32
+  pub from : (u p : ℕ) → slice_index_or preds u None ≡ Some p → s.base < s.top → (c : ℕ) × (tip_at tips p ≡ Some c)
 
 -- The first n modes have their cells in the new layer, with tips new beside the old ones; every other cell is where it was.
 pub record Sprout (o : Tree) (tips preds : List (Option ℕ)) (n : ℕ) (s : Tree) (new : List (Option ℕ)) : Type 0 where
@@ -119,10 +118,10 @@ pub record Sprout (o : Tree) (tips preds : List (Option ℕ)) (n : ℕ) (s : Tre
   pub layer : (x : ℕ) → x < 1024 → 0 < (at o.cells x).refs → (at s.cells x).layer ≡ (at o.cells x).layer
   pub parent : (x : ℕ) → x < 1024 → 0 < (at o.cells x).refs → (at s.cells x).parent ≡ (at o.cells x).parent
   pub mode : (x : ℕ) → x < 1024 → 0 < (at o.cells x).refs → (at s.cells x).mode ≡ (at o.cells x).mode
-  pub reach : (u p : ℕ) → u < n → from_at preds u ≡ Some p → (c : ℕ) × (tip_at new u ≡ Some c)
-  pub unreach : (u : ℕ) → from_at preds u ≡ None → tip_at new u ≡ None
+  pub reach : (u p : ℕ) → u < n → slice_index_or preds u None ≡ Some p → (c : ℕ) × (tip_at new u ≡ Some c)
+  pub unreach : (u : ℕ) → slice_index_or preds u None ≡ None → tip_at new u ≡ None
   pub new_layer : (u c : ℕ) → tip_at new u ≡ Some c → (at s.cells c).layer ≡ o.top
-  pub new_parent : (u c p q : ℕ) → tip_at new u ≡ Some c → from_at preds u ≡ Some p → tip_at tips p ≡ Some q → (at s.cells c).parent ≡ q
+  pub new_parent : (u c p q : ℕ) → tip_at new u ≡ Some c → slice_index_or preds u None ≡ Some p → tip_at tips p ≡ Some q → (at s.cells c).parent ≡ q
   pub new_mode : (u c : ℕ) → tip_at new u ≡ Some c → (at s.cells c).mode ≡ u
 
 -- The tree has one more layer, and its tips are those of the new layer.
@@ -130,9 +129,9 @@ pub record Layered (s : Tree) (tips preds : List (Option ℕ)) (t : Tree) (tips'
   pub valid : Valid t tips'
   pub base : t.base ≡ s.base
   pub top : t.top ≡ s.top + 1
-  pub reach : (u p : ℕ) → from_at preds u ≡ Some p → (c : ℕ) × (tip_at tips' u ≡ Some c)
-  pub unreach : (u : ℕ) → from_at preds u ≡ None → tip_at tips' u ≡ None
-  pub paths : (u p : ℕ) → from_at preds u ≡ Some p → path_of t tips' u ≡ path_of s tips p ++ (u ∷ [])
+  pub reach : (u p : ℕ) → slice_index_or preds u None ≡ Some p → (c : ℕ) × (tip_at tips' u ≡ Some c)
+  pub unreach : (u : ℕ) → slice_index_or preds u None ≡ None → tip_at tips' u ≡ None
+  pub paths : (u p : ℕ) → slice_index_or preds u None ≡ Some p → path_of t tips' u ≡ path_of s tips p ++ (u ∷ [])
 
 -- s after its oldest layer, which has one cell, is decided.
 abbrev pub without_root : Tree → Tree
