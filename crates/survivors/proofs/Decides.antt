@@ -19,12 +19,12 @@ use Rattle.survivors.proofs.Tips.{held_none, held_some, no_tips}
 pub path_is : (s : Tree) (tips : List (Option ℕ)) (u c : ℕ) → tip_at tips u ≡ Some c → path_of s tips u ≡ path s.cells (s.top - s.base) c
 path_is s tips u c e = rw e refl
 
-module _ (s : Tree) (tips : List (Option ℕ)) (r : Valid s tips) where
+module _ {s : Tree} {tips : List (Option ℕ)} (r : Valid s tips) where
   -- the tip of a mode is in use
   pub tip_used : (u c : ℕ) → tip_at tips u ≡ Some c → 0 < (at s.cells c).refs
   tip_used u c e = omega (arith, r.holds.count c (r.real u c e), held_some tips u c e)
 
-module _ (s : Tree) (tips : List (Option ℕ)) (r : Valid s tips) (single : s.width ≡ 1) where
+module _ {s : Tree} {tips : List (Option ℕ)} (r : Valid s tips) (single : s.width ≡ 1) where
   -- the links of the tree
   abbrev t : Holds s (held tips)
   t = r.holds
@@ -55,7 +55,7 @@ module _ (s : Tree) (tips : List (Option ℕ)) (r : Valid s tips) (single : s.wi
       let d : s.top - s.base ≡ suc n = omega (arith, deep) in
       path_is s tips u c e
       ∙ ap (λ (j : ℕ). path s.cells j c) d
-      ∙ path_root t single n c (r.real u c e) (tip_used s tips r u c e) (omega (arith, r.newest u c e, deep))
+      ∙ path_root t single n c (r.real u c e) (tip_used r u c e) (omega (arith, r.newest u c e, deep))
 
   -- there are younger layers
   module _ (more : s.base + 1 ≢ s.top) where
@@ -114,19 +114,19 @@ module _ (s : Tree) (tips : List (Option ℕ)) (r : Valid s tips) (single : s.wi
         }
 
 -- before the first turn
-pub settle_start : (s : Tree) (tips : List (Option ℕ)) (ring : List ℕ) → Valid s tips → Settling s tips ring s tips ring
-settle_start s tips ring r = record { valid = r; out = []; base = omega arith; top = refl; written = written_none ring s.base; paths = λ u c e. refl; same_tips = λ _. refl }
+pub settle_start : {s : Tree} {tips : List (Option ℕ)} (ring : List ℕ) → Valid s tips → Settling s tips ring s tips ring
+settle_start {s} ring r = record { valid = r; out = []; base = omega arith; top = refl; written = written_none ring s.base; paths = λ u c e. refl; same_tips = λ _. refl }
 
 -- one more mode is decided
-module _ (o : Tree) (tips : List (Option ℕ)) (ring : List ℕ) (s : Tree) (tips' : List (Option ℕ)) (ring' : List ℕ) (g : Settling o tips ring s tips' ring') (long : length ring ≡ 4096) (single : s.width ≡ 1) where
+module _ {o : Tree} {tips : List (Option ℕ)} {ring : List ℕ} {s : Tree} {tips' : List (Option ℕ)} {ring' : List ℕ} (g : Settling o tips ring s tips' ring') (long : length ring ≡ 4096) (single : s.width ≡ 1) where
   -- the mode that is decided
   abbrev m : ℕ
   m = (at s.cells s.first).mode
 
-  paths_on : (u c : ℕ) → tip_at tips u ≡ Some c → path_of o tips u ≡ (g.out ++ (m ∷ [])) ++ path (cs' s tips' g.valid single) (s.top - (s.base + 1)) c
+  paths_on : (u c : ℕ) → tip_at tips u ≡ Some c → path_of o tips u ≡ (g.out ++ (m ∷ [])) ++ path (cs' g.valid single) (s.top - (s.base + 1)) c
   paths_on u c e =
-      let e' : tip_at tips' u ≡ Some c = ap (λ (z : List (Option ℕ)). tip_at z u) (g.same_tips (deep s tips' g.valid single)) ∙ e in
-      g.paths u c e ∙ ap (λ (z : List ℕ). g.out ++ z) (shorter s tips' g.valid single u c e') ∙ sym (append_assoc g.out (m ∷ []) (path (cs' s tips' g.valid single) (s.top - (s.base + 1)) c))
+      let e' : tip_at tips' u ≡ Some c = ap (λ (z : List (Option ℕ)). tip_at z u) (g.same_tips (deep g.valid single)) ∙ e in
+      g.paths u c e ∙ ap (λ (z : List ℕ). g.out ++ z) (shorter g.valid single u c e') ∙ sym (append_assoc g.out (m ∷ []) (path (cs' g.valid single) (s.top - (s.base + 1)) c))
 
   base_on : s.base + 1 ≡ o.base + length (g.out ++ (m ∷ []))
   base_on = omega (arith, g.base, length_push g.out m)
@@ -136,9 +136,9 @@ module _ (o : Tree) (tips : List (Option ℕ)) (ring : List ℕ) (s : Tree) (tip
 
   on_at : s.base + 1 ≢ s.top → Settling o tips ring (without_root s) tips' (set ring' (s.base % 4096) m)
   on_at more =
-      let same : tips' ≡ tips = g.same_tips (deep s tips' g.valid single) in
+      let same : tips' ≡ tips = g.same_tips (deep g.valid single) in
       record {
-        valid = next_valid s tips' g.valid single more;
+        valid = next_valid g.valid single more;
         out = g.out ++ (m ∷ []);
         base = base_on;
         top = g.top;
@@ -153,18 +153,18 @@ module _ (o : Tree) (tips : List (Option ℕ)) (ring : List ℕ) (s : Tree) (tip
   end_at last =
       let z : s.top - (s.base + 1) ≡ 0 = omega arith in
       record {
-        valid = ended_valid s tips' g.valid single last;
+        valid = ended_valid g.valid single last;
         out = g.out ++ (m ∷ []);
         base = base_on;
         top = g.top;
         written = ring_on;
-        paths = λ u c e. paths_on u c e ∙ ap (λ (n : ℕ). (g.out ++ (m ∷ [])) ++ path (cs' s tips' g.valid single) n c) z
-            ∙ sym (ap (λ (n : ℕ). (g.out ++ (m ∷ [])) ++ path (cs' s tips' g.valid single) n (unwrap_or (tip_at (replicate 32 None) u) 0)) z);
+        paths = λ u c e. paths_on u c e ∙ ap (λ (n : ℕ). (g.out ++ (m ∷ [])) ++ path (cs' g.valid single) n c) z
+            ∙ sym (ap (λ (n : ℕ). (g.out ++ (m ∷ [])) ++ path (cs' g.valid single) n (unwrap_or (tip_at (replicate 32 None) u) 0)) z);
         same_tips = λ q. absurd (omega arith);
       }
 
   -- n is the tree after the turn, and v the mode that it decided
-  module _ (n : Tree) (v : ℕ) (e : n ≡ without_root s) (f : v ≡ m) where
+  module _ {n : Tree} {v : ℕ} (e : n ≡ without_root s) (f : v ≡ m) where
     pub settle_on : n.base ≢ n.top → Settling o tips ring n tips' (set ring' (s.base % 4096) v)
     settle_on more = rw (e, f) (on_at (λ q. more (ap (λ (z : Tree). z.base) e ∙ q ∙ sym (ap (λ (z : Tree). z.top) e))))
 
@@ -172,4 +172,4 @@ module _ (o : Tree) (tips : List (Option ℕ)) (ring : List ℕ) (s : Tree) (tip
     settle_end last = rw (e, f) (end_at (sym (ap (λ (z : Tree). z.base) e) ∙ last ∙ ap (λ (z : Tree). z.top) e))
 
     pub settle_less : n.top - n.base < s.top - s.base
-    settle_less = omega (arith, deep s tips' g.valid single, ap (λ (z : Tree). z.base) e, ap (λ (z : Tree). z.top) e)
+    settle_less = omega (arith, deep g.valid single, ap (λ (z : Tree). z.base) e, ap (λ (z : Tree). z.top) e)

@@ -14,7 +14,7 @@ use Rattle.survivors.proofs.Tips.{none_some, no_tips, blank_at, plus_add, held_n
 abbrev pub nil : ℕ → ℕ
 nil x = 0
 
-module _ (s : Tree) (tips : List (Option ℕ)) (r : Valid s tips) (best c : ℕ) (e : tip_at tips best ≡ Some c) where
+module _ {s : Tree} {tips : List (Option ℕ)} (r : Valid s tips) (best c : ℕ) (e : tip_at tips best ≡ Some c) where
   bl : best < 32
   bl = omega (arith, tip_below tips best c e, r.many)
 
@@ -33,7 +33,7 @@ module _ (s : Tree) (tips : List (Option ℕ)) (r : Valid s tips) (best c : ℕ)
       (λ (ne : u ≡ best → ⊥). r.real u x (sym (get_or-set_other tips best u None None ne) ∙ q))
       (cases_eq u best)
 
-  module _ (t : Tree) (d : Shed s (set tips best None) t) where
+  module _ {t : Tree} (d : Shed s (set tips best None) t) where
     -- best's tip alone
     abbrev pub alone : List (Option ℕ)
     alone = set (replicate 32 None) best (Some c)
@@ -72,6 +72,6 @@ module _ (s : Tree) (tips : List (Option ℕ)) (r : Valid s tips) (best c : ℕ)
         ∙ path_frame s (held tips) r.holds t.cells
         (λ y yl w. d.kept.same.parent y yl)
         (λ y yl w. d.kept.same.mode y yl)
-        n c (r.real best c e) (tip_used s tips r best c e) (omega (arith, r.newest best c e, deep))
+        n c (r.real best c e) (tip_used r best c e) (omega (arith, r.newest best c e, deep))
         ∙ sym (ap (λ (j : ℕ). path s.cells j c) b)
         ∙ sym (path_is s tips best c e)

@@ -78,7 +78,7 @@ live_cells_lem s n e =
       all = λ i m o.
           let u = o.to in
           let f = tip_is s u o.tip in
-          let x = at_place s.tree s.tips r (i - decided s) u f.0 f.1 (omega (arith, o.undecided, o.inside)) in
+          let x = at_place r (i - decided s) u f.0 f.1 (omega (arith, o.undecided, o.inside)) in
           let a : (at cs x.0).layer ≡ i = omega (arith, x.3, o.undecided) in
           let b : (at cs x.0).mode ≡ m = sym x.4 ∙ o.lies in
           let q : spot cs x.0 ≡ (i, m) = cc (a, b) in
@@ -88,7 +88,7 @@ live_cells_lem s n e =
           let a : i ≡ (at cs x.0).layer = ap (λ (z : ℕ × ℕ). z.0) x.3 in
           let b : m ≡ (at cs x.0).mode = ap (λ (z : ℕ × ℕ). z.1) x.3 in
           let low = r.holds.shape.low x.0 x.1 x.2 in
-          let u = on_place s.tree s.tips r (i - decided s) x.0 x.1 x.2 (omega (arith, low)) in
+          let u = on_place r (i - decided s) x.0 x.1 x.2 (omega (arith, low)) in
           record {
             to = u.0;
             tip = has_tip s u.0 u.1 u.2;

@@ -44,7 +44,7 @@ no_live t none = record { pairs = []; many = refl; once = tt; all = λ i m o. ab
 pub blank_of : (t : Survivors) → taken t ≡ 0 → decided t ≡ 0 → Blank t
 blank_of t p b = let none = no_tips t (b ∙ sym p) in record { none_taken = p; none_decided = b; no_tip = none; no_live = no_live t none }
 
-module _ (s : Survivors) (ring : List ℕ) (t : Survivors) (ring' : List ℕ) (g : Settling s.tree s.tips ring t.tree t.tips ring') (most : decided t < taken t → Apart t.tree t.tips) where
+module _ (s : Survivors) {ring : List ℕ} (t : Survivors) {ring' : List ℕ} (g : Settling s.tree s.tips ring t.tree t.tips ring') (most : decided t < taken t → Apart t.tree t.tips) where
   still : decided t < taken t → (u c : ℕ) → tip_at t.tips u ≡ Some c → HasTip s u
   still d u c e = has_tip s u c (ap (λ (z : List (Option ℕ)). tip_at z u) (sym (g.same_tips d)) ∙ e)
 
@@ -94,8 +94,8 @@ module _ (s : Survivors) (ring : List ℕ) (t : Survivors) (ring' : List ℕ) (g
 
 -- s' is s with best's tip alone: all of its path is decided, since no other path parts from it
 pub finished_of : (s : Survivors) (best c : ℕ) (e : tip_at s.tips best ≡ Some c) (s' : Survivors) (d : Shed s.tree (set s.tips best None) s'.tree) → s'.tips ≡ set (replicate 32 None) best (Some c)
-    → (ring : List ℕ) (t : Survivors) (ring' : List ℕ) → Settled s' ring t ring' → Finished s best ring t ring'
-finished_of s best c e s' d a ring t ring' g =
+    → {ring : List ℕ} {t : Survivors} {ring' : List ℕ} → Settled s' ring t ring' → Finished s best ring t ring'
+finished_of s best c e s' d a {ring} {t} {ring'} g =
     let n = path_to_length s' best in
     let b = g.longest.longest (path_to s' best) (record { within = omega (arith, n); begins = λ q f. ([], only q f ∙ sym (append-nil (path_to s' best))) }) in
     let all : decided t ≡ taken t = omega (arith, g.more_decided, g.none_taken, decided_taken t, decided_taken s', n, ap length b.1, length-append (path_to s' best) b.0) in
@@ -109,15 +109,15 @@ finished_of s best c e s' d a ring t ring' g =
     }
   where
     tip : HasTip s' best
-    tip = has_tip s' best c (ap (λ (z : List (Option ℕ)). tip_at z best) a ∙ here s.tree s.tips s.valid best c e s'.tree d)
+    tip = has_tip s' best c (ap (λ (z : List (Option ℕ)). tip_at z best) a ∙ here s.valid best c e d)
 
     only : (q : List ℕ) → PathOf s' q → q ≡ path_to s' best
     only q f =
         let k = tip_is s' f.0 f.1 in
-        f.2 ∙ ap (path_to s') (is_best s.tree s.tips s.valid best c e s'.tree d f.0 k.0 (ap (λ (z : List (Option ℕ)). tip_at z f.0) (sym a) ∙ k.1)).0
+        f.2 ∙ ap (path_to s') (is_best s.valid best c e d f.0 k.0 (ap (λ (z : List (Option ℕ)). tip_at z f.0) (sym a) ∙ k.1)).0
 
     path_same : path_to s' best ≡ path_to s best
-    path_same = ap (λ (z : List (Option ℕ)). path_of s'.tree z best) a ∙ alone_path s.tree s.tips s.valid best c e s'.tree d
+    path_same = ap (λ (z : List (Option ℕ)). path_of s'.tree z best) a ∙ alone_path s.valid best c e d
 
     out : taken t ≤ decided t → g.out ≡ path_to s best
     out l = sym (append-nil g.out) ∙ ap (λ (z : List ℕ). g.out ++ z) (sym (path_to_none t best l)) ∙ sym (g.paths best tip) ∙ path_same

@@ -51,7 +51,7 @@ path_read cs d n j c x e l q = ap (λ (k : ℕ). get_or (path cs k c) j 0) e ∙
 above_one : (cs : List Cell) (a b p : ℕ) → a ≡ b → (at cs b).parent ≡ p → (at cs a).parent ≡ p
 above_one cs a b p e q = ap (λ (z : ℕ). (at cs z).parent) e ∙ q
 
-module _ (s : Tree) (tips : List (Option ℕ)) (r : Valid s tips) where
+module _ {s : Tree} {tips : List (Option ℕ)} (r : Valid s tips) where
   -- the cells
   abbrev cs : List Cell
   cs = s.cells
@@ -117,7 +117,7 @@ module _ (s : Tree) (tips : List (Option ℕ)) (r : Valid s tips) where
       let n = s.top - (s.base + 1) in
       let z : s.top - s.base ≡ suc n = omega arith in
       let jl : j < suc n = omega arith in
-      let a = above_used (n - j) j c (r.real u c m) (tip_used s tips r u c m) (omega (arith, r.newest u c m)) in (
+      let a = above_used (n - j) j c (r.real u c m) (tip_used r u c m) (omega (arith, r.newest u c m)) in (
         above cs (n - j) c,
         a.0,
         a.1,

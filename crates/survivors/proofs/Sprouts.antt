@@ -10,7 +10,7 @@ use Rattle.survivors.proofs.Shares.{links_held, owner_parent, owner_used}
 use Rattle.survivors.proofs.Decides.{path_is, tip_used}
 use Rattle.survivors.proofs.Tips.{none_some, no_tips, blank_at, held_bound, held_none, held_put, held_some, plus_add, real_set, tip_below}
 
-module _ (o : Tree) (tips preds : List (Option ℕ)) (x : Next o tips preds) (n : ℕ) (s : Tree) (new : List (Option ℕ)) (g : Sprout o tips preds n s new) (l : n < length preds) where
+module _ {o : Tree} {tips preds : List (Option ℕ)} (x : Next o tips preds) {n : ℕ} {s : Tree} {new : List (Option ℕ)} (g : Sprout o tips preds n s new) (l : n < length preds) where
   n_few : n < 32
   n_few = omega (arith, x.many)
 
@@ -38,7 +38,7 @@ module _ (o : Tree) (tips preds : List (Option ℕ)) (x : Next o tips preds) (n 
     new_mode = g.new_mode;
   }
 
-  module _ (p : ℕ) (is : get_or preds n None ≡ Some p) where
+  module _ {p : ℕ} (is : get_or preds n None ≡ Some p) where
     deep : (c : ℕ) → tip_at tips p ≡ Some c → o.base < o.top
     deep c e = ⊎_elim
         (λ (k : o.base < o.top). k)
@@ -57,12 +57,12 @@ module _ (o : Tree) (tips preds : List (Option ℕ)) (x : Next o tips preds) (n 
           (λ (k : o.top ≤ o.base). omega (arith, g.base, g.top, x.valid.holds.shape.span))
           (cases_lt o.base o.top);
       below = x.valid.real p;
-      used = λ c e. g.uses c (x.valid.real p c e) (tip_used o tips x.valid p c e);
-      layer = λ c e. rw (g.layer c (x.valid.real p c e) (tip_used o tips x.valid p c e)) (x.valid.newest p c e ∙ sym g.top);
+      used = λ c e. g.uses c (x.valid.real p c e) (tip_used x.valid p c e);
+      layer = λ c e. rw (g.layer c (x.valid.real p c e) (tip_used x.valid p c e)) (x.valid.newest p c e ∙ sym g.top);
     }
 
-    pub grown : (i : ℕ) (t : Tree) → Attached s n (tip_at tips p) i t → Sprout o tips preds (n + 1) t (set new n (Some i))
-    grown i t a = record {
+    pub grown : {i : ℕ} {t : Tree} → Attached s n (tip_at tips p) i t → Sprout o tips preds (n + 1) t (set new n (Some i))
+    grown {i} {t} a = record {
       holds = links_held (λ y _. omega (arith, held_put new n i y (omega (arith, n_few, g.many)) (g.beyond n (omega arith)), plus_add (both new (held tips)) i y, plus_add (held new) i y)) (a.holds (both new (held tips)) g.holds);
       many = length-set new n (Some i) ∙ g.many;
       real = real_set new n i g.real a.below;
@@ -124,8 +124,8 @@ module _ (o : Tree) (tips preds : List (Option ℕ)) (x : Next o tips preds) (n 
             (λ (ne : u ≡ n → ⊥). rest u c (sym (other u ne) ∙ e))
             (cases_eq u n)
 
-pub sprout_none : (o : Tree) (tips preds : List (Option ℕ)) → Next o tips preds → Sprout o tips preds 0 o (replicate 32 None)
-sprout_none o tips preds x = record {
+pub sprout_none : {o : Tree} {tips preds : List (Option ℕ)} → Next o tips preds → Sprout o tips preds 0 o (replicate 32 None)
+sprout_none x = record {
   holds = links_held (λ y _. omega (arith, held_none (replicate 32 None) y (λ u. no_tips 32 u y))) x.valid.holds;
   many = length-replicate {A = Option ℕ} 32 None;
   real = λ u c e. absurd (no_tips 32 u c e);
@@ -160,17 +160,17 @@ path_frame s h t cs ps ms (suc n) c l u e =
     rw (ms c l u, ps c l u, i) refl
 
 -- what the old tips hold beside the new ones
-pub holding : (o : Tree) (tips preds : List (Option ℕ)) (n : ℕ) (s : Tree) (new : List (Option ℕ)) → Sprout o tips preds n s new → Holds s (both tips (held new))
-holding o tips preds n s new g = links_held (λ y _. omega arith) g.holds
+pub holding : {o : Tree} {tips preds : List (Option ℕ)} {n : ℕ} {s : Tree} {new : List (Option ℕ)} → Sprout o tips preds n s new → Holds s (both tips (held new))
+holding g = links_held (λ y _. omega arith) g.holds
 
 -- the tree after `grow`
-module _ (o : Tree) (tips preds : List (Option ℕ)) (x : Next o tips preds) (s : Tree) (new : List (Option ℕ)) (g : Sprout o tips preds (length preds) s new) (t : Tree) (d : Shed s tips t) where
+module _ {o : Tree} {tips preds : List (Option ℕ)} (x : Next o tips preds) {s : Tree} {new : List (Option ℕ)} (g : Sprout o tips preds (length preds) s new) {t : Tree} (d : Shed s tips t) where
   -- the tree with the new layer
   abbrev pub fresh : Tree
   fresh = record { cells = t.cells; free = t.free; base = t.base; top = t.top + 1; width = t.width; first = t.first }
 
   after : Holds t (held new)
-  after = d.holds (held new) (holding o tips preds (length preds) s new g)
+  after = d.holds (held new) (holding g)
 
   fresh_valid : Valid fresh new
   fresh_valid = record {
@@ -229,7 +229,7 @@ module _ (o : Tree) (tips preds : List (Option ℕ)) (x : Next o tips preds) (s 
           ∙ path_frame o (held tips) x.valid.holds t.cells
           (λ y yl w. d.kept.same.parent y yl ∙ g.parent y yl w)
           (λ y yl w. d.kept.same.mode y yl ∙ g.mode y yl w)
-          n b bl (tip_used o tips x.valid p b f.1) (omega (arith, x.valid.newest p b f.1))
+          n b bl (tip_used x.valid p b f.1) (omega (arith, x.valid.newest p b f.1))
           ∙ sym (ap (λ (j : ℕ). path o.cells j b) e)
           ∙ sym (path_is o tips p b f.1)
 
