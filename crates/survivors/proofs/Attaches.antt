@@ -1,5 +1,6 @@
 -- The tree after `attach`.
 use Rattle.arrayvec.specs.ArrayVec.{ArrayVec}
+use Rattle.std.specs.Option.{option_to_list}
 use Rattle.std.proofs.Common.{◌≡◌, ℕ, ◌^◌, Some, None, Option, ◌+◌, ◌<◌, ltb, ◌≢◌, List, [], ◌∷◌, ◌++◌, length, get_or, set, sym, refl, ap, ◌∙◌, subst, ⊎_elim, arith}
 use Rattle.std.proofs.lemmas.Bool.{cases_eq, lt-ltb}
 use Rattle.std.proofs.lemmas.List.{length-set, get_or-set_same, get_or-set_other, get_or_push, length_push}
@@ -184,8 +185,15 @@ module _ {cs : List Cell} (free : List ℕ) {base top width first : ℕ} {h : �
           oldest = t.oldest ∙ sym (others_p place 1024 (λ q. omega arith));
         }
 
+-- the oldest layer has at most as many cells as there are
+pub width_fits : {s : Tree} {h : ℕ → ℕ} {m : ℕ} {o : Option ℕ} → Ready s h m o → s.width + 1 < 65536
+width_fits {s} r = omega (arith, r.holds.wide, under_one_bound s.cells s.base 1024)
+
 -- what `attach` makes of the tree, where i was the last of the free cells and f are the others
-module _ (s : Tree) (h : ℕ → ℕ) (m : ℕ) (o : Option ℕ) (r : Ready s h m o) (f : ArrayVec ℕ) (i : ℕ) (e : s.free.items ≡ f.items ++ i ∷ []) where
+module _ {s : Tree} {h : ℕ → ℕ} {m : ℕ} {o : Option ℕ} (r : Ready s h m o) (f : ArrayVec ℕ) (i : ℕ) {q : Option ℕ} (popped : s.free.items ≡ f.items ++ option_to_list q) (is : q ≡ Some i) where
+  e : s.free.items ≡ f.items ++ i ∷ []
+  e = popped ∙ ap (λ (z : Option ℕ). f.items ++ option_to_list z) is
+
   t : Links s.cells (f.items ++ i ∷ []) s.base s.top s.width s.first h
   t = links_at (sym e) r.holds
 
@@ -194,9 +202,6 @@ module _ (s : Tree) (h : ℕ → ℕ) (m : ℕ) (o : Option ℕ) (r : Ready s h 
 
   pub cell_below : (p : ℕ) → i < 1024
   cell_below p = slot f.items i t p m r.small r.fresh
-
-  pub width_fits : s.width + 1 < 65536
-  width_fits = omega (arith, r.holds.wide, under_one_bound s.cells s.base 1024)
 
   pub first_fits : s.first + i < 2 ^ 32
   first_fits = omega (arith, r.holds.oldest, under_self_bound s.cells s.base 1024, cell_below 0)
