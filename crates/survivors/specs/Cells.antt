@@ -16,7 +16,7 @@ abbrev pub path : List Cell → ℕ → ℕ → List ℕ
 path cs zero c = []
 path cs (suc m) c = path cs m (at cs c).parent ++ ((at cs c).mode ∷ [])
 
--- The cell above x: its parent, and 1024 in the oldest layer, base.
+-- The cell above x: its parent. For the oldest layer, base, 1024 stands for what is above all cells, so that one sum serves every layer.
 abbrev pub owner : List Cell → ℕ → ℕ → ℕ
 owner cs base x = if (at cs x).layer == base then 1024 else (at cs x).parent
 

@@ -12,7 +12,7 @@ pub struct Cell {
     pub layer: u32,
     /// The sum of the places of the cells below this one: with one such cell, its place.
     pub heirs: u32,
-    /// The place of the cell above this one; in the oldest layer it counts for nothing.
+    /// The place of the cell above this one. In the oldest layer it counts for nothing: there the cell above was decided, and its place is not taken out.
     pub parent: u16,
     /// How many cells below and tips refer to this one; 0 in a free cell.
     pub refs: u16,
