@@ -1,6 +1,7 @@
 -- The tree after a cell is attached.
-use Rattle.std.proofs.Common.{◌≡◌, ℕ, ◌+◌, ◌-◌, ◌<◌, Bool, false, cond, ltb, ◌≢◌, List, get_or, sym, refl, ap, ◌∙◌, ⊎_elim, arith}
+use Rattle.std.proofs.Common.{◌≡◌, ℕ, ◌+◌, ◌<◌, Bool, false, cond, ltb, ◌≢◌, List, [], ◌∷◌, ◌++◌, length, get_or, sym, refl, ap, ◌∙◌, subst, ⊎_elim, arith}
 use Rattle.std.proofs.lemmas.Bool.{cases_eq, lt-ltb, le-ltb, ltb-true, ltb-false}
+use Rattle.std.proofs.lemmas.List.{get_or_append_left, get_or_push, length_push}
 use Rattle.survivors.specs.Sums.{tally}
 use Rattle.survivors.specs.Cells.{Links, Shape, Stack, at, in_use, one, owner, share, under}
 use Rattle.survivors.specs.declared.tree.Cell.{Cell}
@@ -54,21 +55,24 @@ module _ (cs cs' : List Cell) (i : ℕ) (g : Joined cs cs' i) where
       let b : f' i ≡ 1 = rw g.now refl in
       omega arith
 
-  pub stack_less : (free : List ℕ) (room : ℕ) → Stack cs free room → 0 < room → i ≡ get_or free (room - 1) 0 → Stack cs' free (room - 1)
-  stack_less free room s some e =
+  pub stack_less : (free : List ℕ) → Stack cs (free ++ i ∷ []) → Stack cs' free
+  stack_less free s =
+      let n = length_push free i in
+      let last = get_or_push free i 0 (length free) refl in
+      let rest : (k : ℕ) → k < length free → get_or (free ++ i ∷ []) k 0 ≡ get_or free k 0 = get_or_append_left free (i ∷ []) 0 in
+      let low : (k : ℕ) → k < length free → get_or free k 0 < 1024 = λ k l. subst (λ (y : ℕ). y < 1024) (rest k l) (s.below k (omega (arith, n))) in
       record {
-        span = s.span;
-        live = omega (arith, s.live, use_more);
-        below = λ k l. s.below k (omega arith);
+        live = omega (arith, s.live, n, use_more);
+        below = low;
         empty = λ k l.
-            let kr : k < room = omega arith in
-            let ne : get_or free k 0 ≢ i = λ q. s.apart k (room - 1) l (omega arith) (q ∙ e) in
-            let b : ltb 0 (at cs' (get_or free k 0)).refs ≡ false = g.uses (get_or free k 0) (s.below k kr) ne ∙ le-ltb 0 (at cs (get_or free k 0)).refs (omega (arith, s.empty k kr)) in
+            let ne : get_or free k 0 ≢ i = λ q. s.apart k (length free) l (omega (arith, n)) (rest k l ∙ q ∙ sym last) in
+            let z : (at cs (get_or free k 0)).refs ≡ 0 = subst (λ (y : ℕ). (at cs y).refs ≡ 0) (rest k l) (s.empty k (omega (arith, n))) in
+            let b : ltb 0 (at cs' (get_or free k 0)).refs ≡ false = g.uses (get_or free k 0) (low k l) ne ∙ le-ltb 0 (at cs (get_or free k 0)).refs (omega (arith, z)) in
             omega (arith, ltb-false 0 (at cs' (get_or free k 0)).refs b);
-        apart = λ j k l m. s.apart j k l (omega arith);
+        apart = λ j k l m q. s.apart j k l (omega (arith, n)) (rest j (omega arith) ∙ q ∙ sym (rest k m));
       }
 
-  module _ {free : List ℕ} {room base top width first : ℕ} {h : ℕ → ℕ} (t : Links cs free room base top width first h) where
+  module _ {free : List ℕ} {base top width first : ℕ} {h : ℕ → ℕ} (t : Links cs free base top width first h) where
     off : (p : ℕ) → 0 < (at cs p).refs → p ≢ i
     off p u q = let z : (at cs p).refs ≡ 0 = rw q g.was in omega arith
 

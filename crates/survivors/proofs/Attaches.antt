@@ -1,27 +1,31 @@
 -- The tree after `attach`.
-use Rattle.std.proofs.Common.{◌≡◌, ℕ, ◌+◌, ◌-◌, ◌<◌, ltb, ◌≢◌, List, length, get_or, set, sym, refl, ap, ◌∙◌, subst, ⊎_elim, arith}
+use Rattle.arrayvec.specs.ArrayVec.{ArrayVec}
+use Rattle.std.specs.Option.{option_to_list}
+use Rattle.std.proofs.Common.{◌≡◌, ℕ, ◌^◌, Some, None, Option, ◌+◌, ◌<◌, ltb, ◌≢◌, List, [], ◌∷◌, ◌++◌, length, get_or, set, sym, refl, ap, ◌∙◌, subst, ⊎_elim, arith}
 use Rattle.std.proofs.lemmas.Bool.{cases_eq, lt-ltb}
-use Rattle.std.proofs.lemmas.List.{length-set, get_or-set_same, get_or-set_other}
+use Rattle.std.proofs.lemmas.List.{length-set, get_or-set_same, get_or-set_other, get_or_push, length_push}
 use Rattle.survivors.specs.Cells.{Links, Same, at, one, owner, place, plus, recount, under, void}
+use Rattle.survivors.specs.Trees.{Attached, Ready}
 use Rattle.survivors.specs.declared.tree.Cell.{Cell}
-use Rattle.survivors.proofs.Shares.{recount_other, recount_refs, recount_heirs, recount_same, owner_oldest, owner_parent, plus_here, plus_other, under_zero}
-use Rattle.survivors.proofs.Arrivals.{Joined, join_used, join_owner, join_other, stack_less, join_shape}
+use Rattle.survivors.specs.declared.tree.Tree.{Tree}
+use Rattle.survivors.proofs.Shares.{recount_other, recount_refs, recount_heirs, recount_same, owner_oldest, owner_parent, plus_here, plus_other, under_zero, under_one_bound, under_self_bound, links_at}
+use Rattle.survivors.proofs.Arrivals.{Joined, join_used, join_uses, join_owner, join_other, stack_less, join_shape}
 
 -- a new cell at i
 abbrev pub put : List Cell → ℕ → ℕ → ℕ → ℕ → List Cell
 put cs i top p m = set cs i (record { layer = top; heirs = 0; parent = p; refs = 1; mode = m })
 
-module _ {cs : List Cell} {free : List ℕ} {room base top width first : ℕ} {h : ℕ → ℕ} (t : Links cs free room base top width first h) (some : 0 < room) (p m : ℕ) (tiny : m < 32)
+module _ {cs : List Cell} (free : List ℕ) {base top width first : ℕ} {h : ℕ → ℕ} (i : ℕ) (t : Links cs (free ++ i ∷ []) base top width first h) (p m : ℕ) (tiny : m < 32)
     (fresh : (x : ℕ) → x < 1024 → 0 < (at cs x).refs → (at cs x).layer ≡ top → (at cs x).mode ≢ m) where
-  -- the free cell on top of the stack
-  abbrev i : ℕ
-  i = get_or free (room - 1) 0
+  -- i is the last of the free cells
+  last : get_or (free ++ i ∷ []) (length free) 0 ≡ i
+  last = get_or_push free i 0 (length free) refl
 
-  slot : get_or free (room - 1) 0 < 1024
-  slot = t.stack.below (room - 1) (omega arith)
+  pub slot : i < 1024
+  slot = subst (λ (y : ℕ). y < 1024) last (t.stack.below (length free) (omega (arith, length_push free i)))
 
   slot_free : (at cs i).refs ≡ 0
-  slot_free = t.stack.empty (room - 1) (omega arith)
+  slot_free = subst (λ (y : ℕ). (at cs y).refs ≡ 0) last (t.stack.empty (length free) (omega (arith, length_push free i)))
 
   fits : i < length cs
   fits = omega (arith, t.size, slot)
@@ -64,7 +68,7 @@ module _ {cs : List Cell} {free : List ℕ} {room base top width first : ℕ} {h
     others : (w : ℕ → ℕ) (x : ℕ) → x < 1024 → under w (put cs i top p m) base x ≡ under w cs base x
     others w x l = join_other cs (put cs i top p m) i root_joined w base x (λ q. omega (arith, own))
 
-    pub root : Links (put cs i top p m) free (room - 1) base top (width + 1) (first + i) (plus h i)
+    pub root : Links (put cs i top p m) free base top (width + 1) (first + i) (plus h i)
     root =
         let none : base < top → ⊥ = λ q. omega arith in
         record {
@@ -72,7 +76,7 @@ module _ {cs : List Cell} {free : List ℕ} {room base top width first : ℕ} {h
           shape = join_shape cs (put cs i top p m) i root_joined t
               (ap (λ (v : Cell). v.layer) put_here) (rw put_here tiny) (λ q. absurd (none q)) (λ q. absurd (none q)) (λ q. absurd (none q))
               (λ x l u e f. fresh x l u e (f ∙ ap (λ (v : Cell). v.mode) put_here));
-          stack = stack_less cs (put cs i top p m) i root_joined free room t.stack some refl;
+          stack = stack_less cs (put cs i top p m) i root_joined free t.stack;
           count = λ x l. ⊎_elim
               (λ (e : x ≡ i). subst (λ (y : ℕ). (at (put cs i top p m) y).refs ≡ under one (put cs i top p m) base y + plus h i y) (sym e)
               (omega (arith, root_joined.now, others one i slot, alone, unheld, plus_here h i)))
@@ -147,7 +151,7 @@ module _ {cs : List Cell} {free : List ℕ} {room base top width first : ℕ} {h
     others_p : (w : ℕ → ℕ) (x : ℕ) → x ≢ p → under w linked base x ≡ under w cs base x
     others_p w x ne = join_other cs linked i linked_joined w base x (λ q. ne (sym q ∙ own_p))
 
-    pub below : Links linked free (room - 1) base top width first (plus h i)
+    pub below : Links linked free base top width first (plus h i)
     below =
         record {
           size = length-set (put cs i top p m) p _ ∙ put_size;
@@ -158,7 +162,7 @@ module _ {cs : List Cell} {free : List ℕ} {room base top width first : ℕ} {h
               (λ q. rw linked_here pu)
               (λ q. rw linked_here pl)
               (λ x l u e f. fresh x l u e (f ∙ ap (λ (v : Cell). v.mode) linked_here));
-          stack = stack_less cs linked i linked_joined free room t.stack some refl;
+          stack = stack_less cs linked i linked_joined free t.stack;
           count = λ x l. ⊎_elim
               (λ (e : x ≡ i). subst (λ (y : ℕ). (at linked y).refs ≡ under one linked base y + plus h i y) (sym e)
               (omega (arith, linked_joined.now, others_p one i i_off, alone, unheld, plus_here h i)))
@@ -179,4 +183,82 @@ module _ {cs : List Cell} {free : List ℕ} {room base top width first : ℕ} {h
               (cases_eq x i);
           wide = t.wide ∙ sym (others_p one 1024 (λ q. omega arith));
           oldest = t.oldest ∙ sym (others_p place 1024 (λ q. omega arith));
+        }
+
+-- the oldest layer has at most as many cells as there are
+pub width_fits : {s : Tree} {h : ℕ → ℕ} {m : ℕ} {o : Option ℕ} → Ready s h m o → s.width + 1 < 65536
+width_fits {s} r = omega (arith, r.holds.wide, under_one_bound s.cells s.base 1024)
+
+-- what `attach` makes of the tree, where i was the last of the free cells and f are the others
+module _ {s : Tree} {h : ℕ → ℕ} {m : ℕ} {o : Option ℕ} (r : Ready s h m o) (f : ArrayVec ℕ) (i : ℕ) {q : Option ℕ} (popped : s.free.items ≡ f.items ++ option_to_list q) (is : q ≡ Some i) where
+  e : s.free.items ≡ f.items ++ i ∷ []
+  e = popped ∙ ap (λ (z : Option ℕ). f.items ++ option_to_list z) is
+
+  t : Links s.cells (f.items ++ i ∷ []) s.base s.top s.width s.first h
+  t = links_at (sym e) r.holds
+
+  room : length f.items + 1 ≡ length s.free.items
+  room = omega (arith, ap length e, length_push f.items i)
+
+  pub cell_below : (p : ℕ) → i < 1024
+  cell_below p = slot f.items i t p m r.small r.fresh
+
+  pub first_fits : s.first + i < 2 ^ 32
+  first_fits = omega (arith, r.holds.oldest, under_self_bound s.cells s.base 1024, cell_below 0)
+
+  pub attached_oldest : o ≡ None → (p : ℕ) → Attached s m o i (record { cells = put s.cells i s.top p m; free = f; base = s.base; top = s.top; width = s.width + 1; first = s.first + i })
+  attached_oldest none p =
+      let new = r.oldest none in
+      let g = root_joined f.items i t p m r.small r.fresh new in
+      let here = put_here f.items i t p m r.small r.fresh in
+      record {
+        holds = λ h' k. root f.items i (links_at (sym e) k) p m r.small r.fresh new;
+        below = g.here;
+        was = g.was;
+        used = join_used _ _ _ g;
+        uses = join_uses _ _ _ g;
+        layer = g.layer;
+        parent = g.parent;
+        mode = g.mode;
+        new_layer = ap (λ (v : Cell). v.layer) here;
+        new_parent = λ c q. absurd (let z : ◌≡◌ {A = ℕ} 0 1 = cc in omega arith);
+        new_mode = ap (λ (v : Cell). v.mode) here;
+        base = refl;
+        top = refl;
+        room = room;
+      }
+
+  module _ (p : ℕ) (some : o ≡ Some p) where
+    deep : s.top ≢ s.base
+    deep q = omega (arith, r.layer p some, r.holds.shape.low p (r.below p some) (r.used p some))
+
+    -- p's counts are what they were, whatever is put at i
+    off : (q : ℕ) → at (put s.cells i s.top q m) p ≡ at s.cells p
+    off q = put_other f.items i t q m r.small r.fresh p (λ e. let z : (at s.cells p).refs ≡ 0 = rw e (slot_free f.items i t q m r.small r.fresh) in omega (arith, r.used p some))
+
+    pub heirs_fit : (q : ℕ) → (at (put s.cells i s.top q m) p).heirs + i < 2 ^ 32
+    heirs_fit q = omega (arith, ap (λ (v : Cell). v.heirs) (off q), r.holds.heir p (r.below p some) (r.used p some), under_self_bound s.cells s.base p, cell_below p)
+
+    pub refs_fit : (q : ℕ) → (at (put s.cells i s.top q m) p).refs + 1 < 65536
+    refs_fit q = omega (arith, ap (λ (v : Cell). v.refs) (off q), r.holds.count p (r.below p some), under_one_bound s.cells s.base p, r.few p)
+
+    pub attached_below : Attached s m o i (record { cells = recount (put s.cells i s.top p m) p ((at (put s.cells i s.top p m) p).refs + 1) ((at (put s.cells i s.top p m) p).heirs + i); free = f; base = s.base; top = s.top; width = s.width; first = s.first })
+    attached_below =
+        let g = linked_joined f.items i t p m r.small r.fresh deep (r.below p some) (r.used p some) (r.layer p some) in
+        let here = linked_here f.items i t p m r.small r.fresh deep (r.below p some) (r.used p some) (r.layer p some) in
+        record {
+          holds = λ h' k. below f.items i (links_at (sym e) k) p m r.small r.fresh deep (r.below p some) (r.used p some) (r.layer p some);
+          below = g.here;
+          was = g.was;
+          used = join_used _ _ _ g;
+          uses = join_uses _ _ _ g;
+          layer = g.layer;
+          parent = g.parent;
+          mode = g.mode;
+          new_layer = ap (λ (v : Cell). v.layer) here;
+          new_parent = λ c q. ap (λ (v : Cell). v.parent) here ∙ (let z : p ≡ c = cc in z);
+          new_mode = ap (λ (v : Cell). v.mode) here;
+          base = refl;
+          top = refl;
+          room = room;
         }

@@ -1,41 +1,32 @@
 -- One turn of `settle`.
-use Rattle.std.proofs.Common.{◌≡◌, ℕ, zero, suc, ◌+◌, ◌-◌, ◌%◌, ◌<◌, ◌≤◌, cond, eqb, ◌≢◌, List, [], ◌∷◌, ◌++◌, map, length, get_or, set, replicate, None, sym, refl, ap, ◌∙◌, ⊎_elim, append_assoc, arith}
+use Rattle.std.proofs.Common.{◌≡◌, ℕ, suc, ◌+◌, ◌-◌, ◌%◌, ◌<◌, ◌≤◌, ◌≢◌, List, [], ◌∷◌, ◌++◌, length, set, replicate, Some, None, Option, sym, refl, ap, ◌∙◌, ⊎_elim, append_assoc, arith}
+use Rattle.std.specs.Prelude.{unwrap_or}
 use Rattle.std.proofs.lemmas.Bool.{cases_eq, cases_lt, eq-eqb, ne_eqb}
-use Rattle.std.proofs.lemmas.List.{length_push, get_or-replicate, length-replicate}
+use Rattle.std.proofs.lemmas.List.{length_push, length-replicate}
 use Rattle.survivors.specs.Cells.{Kept, at, one, path, place, share, under}
 use Rattle.survivors.specs.Ring.{Written}
-use Rattle.survivors.proofs.Rings.{written_push}
-use Rattle.survivors.specs.Trees.{Holds, Real, Settling, Tips, Valid, held, path_of, tip_at, tip_of, tips_of}
+use Rattle.survivors.specs.Trees.{Holds, Settling, Valid, held, path_of, tip_at, without_root}
 use Rattle.survivors.specs.declared.tree.Cell.{Cell}
 use Rattle.survivors.specs.declared.tree.Tree.{Tree}
-use Rattle.survivors.proofs.Tallies.{tally_ge, tally_none}
+use Rattle.survivors.proofs.Rings.{written_none, written_push}
+use Rattle.survivors.proofs.Tallies.{tally_none}
 use Rattle.survivors.proofs.Roots.{Root, root, rootless, root_gone, root_kept, decide, path_root}
 use Rattle.survivors.proofs.Shares.{share_none, share_not, owner_oldest}
 use Rattle.survivors.proofs.Freed.{stack_more}
+use Rattle.survivors.proofs.Tips.{held_none, held_some, no_tips}
 
--- no tip at all
-pub no_tips : (n : ℕ) → Real (replicate n None)
-no_tips zero u c e = absurd (let z : ◌≡◌ {A = ℕ} 0 1 = cc in omega arith)
-no_tips (suc n) zero c e = absurd (let z : ◌≡◌ {A = ℕ} 0 1 = cc in omega arith)
-no_tips (suc n) (suc u) c e = no_tips n u c e
+-- the path to a mode with a tip
+pub path_is : (s : Tree) (tips : List (Option ℕ)) (u c : ℕ) → tip_at tips u ≡ Some c → path_of s tips u ≡ path s.cells (s.top - s.base) c
+path_is s tips u c e = rw e refl
 
--- tips of no mode
-pub blank_tips : Tips (replicate 32 1024) 0
-blank_tips = record {
-  many = length-replicate {A = ℕ} 32 1024;
-  each = λ u l. omega (arith, get_or-replicate {A = ℕ} 32 u 1024 0 l);
-  beyond = λ u l k. get_or-replicate {A = ℕ} 32 u 1024 0 l;
-}
+module _ {s : Tree} {tips : List (Option ℕ)} (r : Valid s tips) where
+  -- the tip of a mode is in use
+  pub tip_used : (u c : ℕ) → tip_at tips u ≡ Some c → 0 < (at s.cells c).refs
+  tip_used u c e = omega (arith, r.holds.count c (r.real u c e), held_some tips u c e)
 
-pub tips_wider : {tips : List ℕ} (k : ℕ) → Tips tips 0 → Tips tips k
-tips_wider k t = record { many = t.many; each = t.each; beyond = λ u l _. t.beyond u l (omega arith) }
-
-pub held_none : (tips : List ℕ) (x : ℕ) → ((u : ℕ) → u < 32 → get_or tips u 0 ≢ x) → held tips x ≡ 0
-held_none tips x off = tally_none (λ u. cond (eqb (get_or tips u 0) x) 1 0) 32 (λ u l. rw (ne_eqb (get_or tips u 0) x (off u l)) refl)
-
-module _ (s : Tree) (r : Valid s) (single : s.width ≡ 1) where
+module _ {s : Tree} {tips : List (Option ℕ)} (r : Valid s tips) (single : s.width ≡ 1) where
   -- the links of the tree
-  abbrev t : Holds s (held (tips_of s))
+  abbrev t : Holds s (held tips)
   t = r.holds
 
   pub top_root : Root t single s.first
@@ -51,49 +42,37 @@ module _ (s : Tree) (r : Valid s) (single : s.width ≡ 1) where
   abbrev cs' : List Cell
   cs' = rootless t single
 
-  pub room_below : s.room < 1024
-  room_below = omega (arith, (stack_more s.cells cs' s.first (root_gone t single) s.free s.room t.stack).live)
+  pub room_below : length s.free.items < 1024
+  room_below = omega (arith, (stack_more s.cells cs' s.first (root_gone t single) s.free.items t.stack).live, length_push s.free.items s.first)
 
   kept : Kept s.cells cs'
   kept = root_kept t single
 
   -- a path, without its first mode
-  shorter : (u : ℕ) → u < 32 → tip_at s u < 1024 → path_of s u ≡ (at s.cells s.first).mode ∷ path cs' (s.top - (s.base + 1)) (tip_at s u)
-  shorter u l m =
+  shorter : (u c : ℕ) → tip_at tips u ≡ Some c → path_of s tips u ≡ (at s.cells s.first).mode ∷ path cs' (s.top - (s.base + 1)) c
+  shorter u c e =
       let n = s.top - (s.base + 1) in
-      let e : s.top - s.base ≡ suc n = omega (arith, deep) in
-      let k : 0 < held (tips_of s) (tip_at s u) =
-      let f : ℕ → ℕ = λ v. cond (eqb (tip_at s v) (tip_at s u)) 1 0 in
-      let o : f u ≡ 1 = rw (eq-eqb (tip_at s u) (tip_at s u) refl) refl in
-      omega (arith, tally_ge f u 32 l) in
-      ap (λ (j : ℕ). path s.cells j (tip_at s u)) e
-      ∙ path_root t single n (tip_at s u) m (omega (arith, t.count (tip_at s u) m)) (omega (arith, r.newest u l m, deep))
+      let d : s.top - s.base ≡ suc n = omega (arith, deep) in
+      path_is s tips u c e
+      ∙ ap (λ (j : ℕ). path s.cells j c) d
+      ∙ path_root t single n c (r.real u c e) (tip_used r u c e) (omega (arith, r.newest u c e, deep))
 
   -- there are younger layers
   module _ (more : s.base + 1 ≢ s.top) where
-    -- the tree without the root
-    abbrev pub next : Tree
-    next = record { cells = cs'; free = set s.free s.room s.first; tips = s.tips; room = s.room + 1; base = s.base + 1; top = s.top; width = (at s.cells s.first).refs; first = (at s.cells s.first).heirs; modes = s.modes }
+    unheld : held tips s.first ≡ 0
+    unheld = held_none tips s.first (λ u e. more (omega (arith, r.newest u s.first e, top_root.layer)))
 
-    unheld : held (tips_of s) s.first ≡ 0
-    unheld = held_none (tips_of s) s.first (λ u l q.
-        let a : tip_at s u < 1024 = rw q first_below in
-        let b : (at s.cells (tip_at s u)).layer + 1 ≡ s.top = r.newest u l a in
-        let c : (at s.cells s.first).layer + 1 ≡ s.top = rw q at b in
-        more (omega (arith, c, top_root.layer)))
-
-    next_valid : Valid next
+    next_valid : Valid (without_root s) tips
     next_valid =
-        let d = decide t single (held (tips_of s)) (λ x l ne. refl) unheld deep in
+        let d = decide t single (held tips) (λ x l ne. refl) unheld deep in
         let w : under one s.cells s.base s.first ≡ (at s.cells s.first).refs = omega (arith, t.count s.first first_below, unheld) in
         let f : under place s.cells s.base s.first ≡ (at s.cells s.first).heirs = sym (t.heir s.first first_below top_root.used) in
         record {
+          holds = record { size = d.size; shape = d.shape; stack = d.stack; count = d.count; heir = d.heir; wide = rw (ne_eqb (s.base + 1) s.top more) (sym w ∙ d.wide); oldest = rw (ne_eqb (s.base + 1) s.top more) (sym f ∙ d.oldest) };
+          many = r.many;
           real = r.real;
-          holds = record { size = d.size; shape = d.shape; stack = d.stack; count = d.count; heir = d.heir; wide = sym w ∙ d.wide; oldest = sym f ∙ d.oldest };
-          tips = r.tips;
-          few = r.few;
-          newest = λ u l m. rw (kept.same.layer (tip_at s u) m) (r.newest u l m);
-          ends = λ u l m. kept.same.mode (tip_at s u) m ∙ r.ends u l m;
+          newest = λ u c e. rw (kept.same.layer c (r.real u c e)) (r.newest u c e);
+          ends = λ u c e. kept.same.mode c (r.real u c e) ∙ r.ends u c e;
           old = λ x l u. rw (kept.same.layer x l) (r.old x l (kept.used x l u));
           none = λ e. absurd (more e);
           any = λ _. r.any deep;
@@ -101,18 +80,18 @@ module _ (s : Tree) (r : Valid s) (single : s.width ≡ 1) where
 
   -- this was the last layer
   module _ (last : s.base + 1 ≡ s.top) where
-    -- the tree without its only layer
-    abbrev pub ended : Tree
-    ended = record { cells = cs'; free = set s.free s.room s.first; tips = replicate 32 None; room = s.room + 1; base = s.base + 1; top = s.top; width = 0; first = 0; modes = s.modes }
-
     only : (x : ℕ) → x < 1024 → 0 < (at s.cells x).refs → x ≡ s.first
     only x l u = top_root.only x l u (omega (arith, r.old x l u, t.shape.low x l u))
 
     unused : (x : ℕ) → x < 1024 → x ≢ s.first → (at s.cells x).refs ≡ 0
     unused x l ne = ⊎_elim (λ (u : 0 < (at s.cells x).refs). absurd (ne (only x l u))) (λ (z : (at s.cells x).refs ≤ 0). omega arith) (cases_lt 0 (at s.cells x).refs)
 
-    free_tips : (x : ℕ) → x < 1024 → held (replicate 32 1024) x ≡ 0
-    free_tips x l = held_none (replicate 32 1024) x (λ u m q. omega (arith, get_or-replicate {A = ℕ} 32 u 1024 0 m))
+    -- the tips of no mode
+    abbrev blank : List (Option ℕ)
+    blank = replicate 32 None
+
+    free_tips : (x : ℕ) → held blank x ≡ 0
+    free_tips x = held_none blank x (λ u. no_tips 32 u x)
 
     childless : (w : ℕ → ℕ) → under w s.cells s.base s.first ≡ 0
     childless w = tally_none (share w s.cells s.base s.first) 1024 (λ x l. ⊎_elim
@@ -120,33 +99,34 @@ module _ (s : Tree) (r : Valid s) (single : s.width ≡ 1) where
         (λ ne. share_none w s.cells s.base s.first x (unused x l ne))
         (cases_eq x s.first))
 
-    ended_valid : Valid ended
+    ended_valid : Valid (without_root s) blank
     ended_valid =
-        let d = decide t single (held (replicate 32 1024)) (λ x l ne. free_tips x l ∙ sym (omega (arith, t.count x l, unused x l ne))) (free_tips s.first first_below) deep in
+        let d = decide t single (held blank) (λ x l ne. free_tips x ∙ sym (omega (arith, t.count x l, unused x l ne))) (free_tips s.first) deep in
         record {
-          real = no_tips 32;
-          holds = record { size = d.size; shape = d.shape; stack = d.stack; count = d.count; heir = d.heir; wide = sym (childless one) ∙ d.wide; oldest = sym (childless place) ∙ d.oldest };
-          tips = tips_wider s.modes blank_tips;
-          few = r.few;
-          newest = λ u l m. absurd (omega (arith, get_or-replicate {A = ℕ} 32 u 1024 0 l));
-          ends = λ u l m. absurd (omega (arith, get_or-replicate {A = ℕ} 32 u 1024 0 l));
+          holds = record { size = d.size; shape = d.shape; stack = d.stack; count = d.count; heir = d.heir; wide = rw (eq-eqb (s.base + 1) s.top last) (sym (childless one) ∙ d.wide); oldest = rw (eq-eqb (s.base + 1) s.top last) (sym (childless place) ∙ d.oldest) };
+          many = length-replicate {A = Option ℕ} 32 None;
+          real = λ u c e. absurd (no_tips 32 u c e);
+          newest = λ u c e. absurd (no_tips 32 u c e);
+          ends = λ u c e. absurd (no_tips 32 u c e);
           old = λ x l u. rw (kept.same.layer x l) (r.old x l (kept.used x l u));
-          none = λ e u l. get_or-replicate {A = ℕ} 32 u 1024 0 l;
+          none = λ _ u c e. no_tips 32 u c e;
           any = λ q. absurd (omega arith);
         }
 
+-- before the first turn
+pub settle_start : {s : Tree} {tips : List (Option ℕ)} (ring : List ℕ) → Valid s tips → Settling s tips ring s tips ring
+settle_start {s} ring r = record { valid = r; out = []; base = omega arith; top = refl; written = written_none ring s.base; paths = λ u c e. refl; same_tips = λ _. refl }
+
 -- one more mode is decided
-module _ (o : Tree) (ring : List ℕ) (s : Tree) (ring' : List ℕ) (g : Settling o ring s ring') (long : length ring ≡ 4096) (single : s.width ≡ 1) where
+module _ {o : Tree} {tips : List (Option ℕ)} {ring : List ℕ} {s : Tree} {tips' : List (Option ℕ)} {ring' : List ℕ} (g : Settling o tips ring s tips' ring') (long : length ring ≡ 4096) (single : s.width ≡ 1) where
   -- the mode that is decided
   abbrev m : ℕ
   m = (at s.cells s.first).mode
 
-  paths_on : (u : ℕ) → u < 32 → tip_at o u < 1024 → path_of o u ≡ (g.out ++ (m ∷ [])) ++ path (cs' s g.valid single) (s.top - (s.base + 1)) (tip_at s u)
-  paths_on u l k =
-      let e : tips_of s ≡ tips_of o = ap (map tip_of) (g.tips (deep s g.valid single)) in
-      let k' : tip_at s u < 1024 = rw e k in
-      let q = shorter s g.valid single u l k' in
-      g.paths u l k ∙ ap (λ (z : List ℕ). g.out ++ z) q ∙ sym (append_assoc g.out (m ∷ []) (path (cs' s g.valid single) (s.top - (s.base + 1)) (tip_at s u)))
+  paths_on : (u c : ℕ) → tip_at tips u ≡ Some c → path_of o tips u ≡ (g.out ++ (m ∷ [])) ++ path (cs' g.valid single) (s.top - (s.base + 1)) c
+  paths_on u c e =
+      let e' : tip_at tips' u ≡ Some c = ap (λ (z : List (Option ℕ)). tip_at z u) (g.same_tips (deep g.valid single)) ∙ e in
+      g.paths u c e ∙ ap (λ (z : List ℕ). g.out ++ z) (shorter g.valid single u c e') ∙ sym (append_assoc g.out (m ∷ []) (path (cs' g.valid single) (s.top - (s.base + 1)) c))
 
   base_on : s.base + 1 ≡ o.base + length (g.out ++ (m ∷ []))
   base_on = omega (arith, g.base, length_push g.out m)
@@ -154,27 +134,42 @@ module _ (o : Tree) (ring : List ℕ) (s : Tree) (ring' : List ℕ) (g : Settlin
   ring_on : Written ring o.base (g.out ++ (m ∷ [])) (set ring' (s.base % 4096) m)
   ring_on = rw g.base (written_push ring o.base g.out ring' m long g.written)
 
-  pub settle_on : (more : s.base + 1 ≢ s.top) → Settling o ring (next s g.valid single more) (set ring' (s.base % 4096) m)
-  settle_on more = record {
-    valid = next_valid s g.valid single more;
-    out = g.out ++ (m ∷ []);
-    base = base_on;
-    top = g.top;
-    written = ring_on;
-    paths = paths_on;
-    tips = λ _. g.tips (deep s g.valid single);
-  }
-
-  pub settle_end : (last : s.base + 1 ≡ s.top) → Settling o ring (ended s g.valid single last) (set ring' (s.base % 4096) m)
-  settle_end last =
-      let z : s.top - (s.base + 1) ≡ 0 = omega arith in
+  on_at : s.base + 1 ≢ s.top → Settling o tips ring (without_root s) tips' (set ring' (s.base % 4096) m)
+  on_at more =
+      let same : tips' ≡ tips = g.same_tips (deep g.valid single) in
       record {
-        valid = ended_valid s g.valid single last;
+        valid = next_valid g.valid single more;
         out = g.out ++ (m ∷ []);
         base = base_on;
         top = g.top;
         written = ring_on;
-        paths = λ u l k. paths_on u l k ∙ ap (λ (n : ℕ). (g.out ++ (m ∷ [])) ++ path (cs' s g.valid single) n (tip_at s u)) z
-            ∙ sym (ap (λ (n : ℕ). (g.out ++ (m ∷ [])) ++ path (cs' s g.valid single) n (get_or (replicate 32 1024) u 0)) z);
-        tips = λ q. absurd (omega arith);
+        paths = λ u c e.
+            let e' : tip_at tips' u ≡ Some c = ap (λ (z : List (Option ℕ)). tip_at z u) same ∙ e in
+            paths_on u c e ∙ ap (λ (z : List ℕ). (g.out ++ (m ∷ [])) ++ z) (sym (path_is (without_root s) tips' u c e'));
+        same_tips = λ _. same;
       }
+
+  end_at : s.base + 1 ≡ s.top → Settling o tips ring (without_root s) (replicate 32 None) (set ring' (s.base % 4096) m)
+  end_at last =
+      let z : s.top - (s.base + 1) ≡ 0 = omega arith in
+      record {
+        valid = ended_valid g.valid single last;
+        out = g.out ++ (m ∷ []);
+        base = base_on;
+        top = g.top;
+        written = ring_on;
+        paths = λ u c e. paths_on u c e ∙ ap (λ (n : ℕ). (g.out ++ (m ∷ [])) ++ path (cs' g.valid single) n c) z
+            ∙ sym (ap (λ (n : ℕ). (g.out ++ (m ∷ [])) ++ path (cs' g.valid single) n (unwrap_or (tip_at (replicate 32 None) u) 0)) z);
+        same_tips = λ q. absurd (omega arith);
+      }
+
+  -- n is the tree after the turn, and v the mode that it decided
+  module _ {n : Tree} {v : ℕ} (e : n ≡ without_root s) (f : v ≡ m) where
+    pub settle_on : n.base ≢ n.top → Settling o tips ring n tips' (set ring' (s.base % 4096) v)
+    settle_on more = rw (e, f) (on_at (λ q. more (ap (λ (z : Tree). z.base) e ∙ q ∙ sym (ap (λ (z : Tree). z.top) e))))
+
+    pub settle_end : n.base ≡ n.top → Settling o tips ring n (replicate 32 None) (set ring' (s.base % 4096) v)
+    settle_end last = rw (e, f) (end_at (sym (ap (λ (z : Tree). z.base) e) ∙ last ∙ ap (λ (z : Tree). z.top) e))
+
+    pub settle_less : n.top - n.base < s.top - s.base
+    settle_less = omega (arith, deep g.valid single, ap (λ (z : Tree). z.base) e, ap (λ (z : Tree). z.top) e)

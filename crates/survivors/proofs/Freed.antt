@@ -1,7 +1,7 @@
 -- A reference to a cell is given back: the cell stays in use, or is free.
-use Rattle.std.proofs.Common.{◌≡◌, ℕ, ◌+◌, ◌<◌, cond, ltb, ◌≢◌, List, length, get_or, set, sym, refl, ap, ◌∙◌, subst, ⊎_elim, arith}
+use Rattle.std.proofs.Common.{◌≡◌, ℕ, ◌+◌, ◌<◌, cond, ltb, ◌≢◌, List, [], ◌∷◌, ◌++◌, length, get_or, sym, refl, ap, ◌∙◌, subst, ⊎_elim, arith}
 use Rattle.std.proofs.lemmas.Bool.{cases_eq, lt-ltb}
-use Rattle.std.proofs.lemmas.List.{length-set, get_or-set_same, get_or-set_other}
+use Rattle.std.proofs.lemmas.List.{get_or_append_left, get_or_push, length_push}
 use Rattle.survivors.specs.Sums.{tally}
 use Rattle.survivors.specs.Cells.{Kept, Same, Stack, at, in_use, owner, share, under}
 use Rattle.survivors.specs.declared.tree.Cell.{Cell}
@@ -51,36 +51,34 @@ module _ (cs cs' : List Cell) (c : ℕ) (g : Gone cs cs' c) where
       let b : f' c ≡ 0 = rw g.none refl in
       omega arith
 
-  pub stack_more : (free : List ℕ) (room : ℕ) → Stack cs free room → Stack cs' (set free room c) (room + 1)
-  stack_more free room s =
-      let lt : room < length free = omega (arith, s.live, s.span, use_less) in
+  pub stack_more : (free : List ℕ) → Stack cs free → Stack cs' (free ++ c ∷ [])
+  stack_more free s =
+      let n = length_push free c in
+      let old : (k : ℕ) → k < length free → get_or (free ++ c ∷ []) k 0 ≡ get_or free k 0 = get_or_append_left free (c ∷ []) 0 in
+      let new : (k : ℕ) → k ≡ length free → get_or (free ++ c ∷ []) k 0 ≡ c = λ k e. get_or_push free c 0 k (sym e) in
       record {
-        span = length-set free room c ∙ s.span;
-        live = omega (arith, s.live, use_less);
+        live = omega (arith, s.live, n, use_less);
         below = λ k l. ⊎_elim
-            (λ (e : k ≡ room). rw (e, get_or-set_same free room c 0 lt) g.here)
-            (λ (ne : k ≡ room → ⊥). let kr : k < room = omega arith in rw (get_or-set_other free room k c 0 ne) (s.below k kr))
-            (cases_eq k room);
+            (λ (e : k ≡ length free). rw (new k e) g.here)
+            (λ (ne : k ≡ length free → ⊥). let kr : k < length free = omega (arith, n) in rw (old k kr) (s.below k kr))
+            (cases_eq k (length free));
         empty = λ k l. ⊎_elim
-            (λ (e : k ≡ room). rw (e, get_or-set_same free room c 0 lt) g.none)
-            (λ (ne : k ≡ room → ⊥).
-            let kr : k < room = omega arith in
-            rw (get_or-set_other free room k c 0 ne) (g.others (get_or free k 0) (s.below k kr) (off free room s k kr) ∙ s.empty k kr))
-            (cases_eq k room);
+            (λ (e : k ≡ length free). rw (new k e) g.none)
+            (λ (ne : k ≡ length free → ⊥).
+            let kr : k < length free = omega (arith, n) in
+            rw (old k kr) (g.others (get_or free k 0) (s.below k kr) (off free s k kr) ∙ s.empty k kr))
+            (cases_eq k (length free));
         apart = λ j k l m. ⊎_elim
-            (λ (e : k ≡ room).
-            let jr : j < room = omega arith in
-            let nj : j ≢ room = λ q. omega arith in
-            rw (e, get_or-set_same free room c 0 lt, get_or-set_other free room j c 0 nj) (off free room s j jr))
-            (λ (ne : k ≡ room → ⊥).
-            let kr : k < room = omega arith in
-            let nj : j ≢ room = λ q. omega arith in
-            rw (get_or-set_other free room k c 0 ne, get_or-set_other free room j c 0 nj) (s.apart j k l kr))
-            (cases_eq k room);
+            (λ (e : k ≡ length free). let jr : j < length free = omega arith in rw (new k e, old j jr) (off free s j jr))
+            (λ (ne : k ≡ length free → ⊥).
+            let kr : k < length free = omega (arith, n) in
+            let jr : j < length free = omega arith in
+            rw (old k kr, old j jr) (s.apart j k l kr))
+            (cases_eq k (length free));
       }
     where
-      off : (free : List ℕ) (room : ℕ) → Stack cs free room → (k : ℕ) → k < room → get_or free k 0 ≢ c
-      off free room s k l q =
+      off : (free : List ℕ) → Stack cs free → (k : ℕ) → k < length free → get_or free k 0 ≢ c
+      off free s k l q =
           let z : (at cs (get_or free k 0)).refs ≡ 0 = s.empty k l in
           let z' : (at cs c).refs ≡ 0 = rw q at z in
           omega (arith, g.was)

@@ -1,92 +1,62 @@
--- What the calls of the inner tree come to, as a caller sees it.
-use Rattle.std.proofs.Common.{◌≡◌, ℕ, ◌-◌, ◌<◌, ◌≤◌, List, [], ◌∷◌, ◌++◌, map, length, get_or, Some, None, Option, sym, refl, ap, ◌∙◌, subst, ⊎_elim, append-nil, arith}
+-- What the calls come to, as a caller sees it.
+use Rattle.std.proofs.Common.{◌≡◌, ℕ, ◌-◌, ◌<◌, ◌≤◌, List, [], ◌++◌, length, set, replicate, Some, None, Option, sym, refl, ap, ◌∙◌, subst, ⊎_elim, append-nil, length-append, arith}
 use Rattle.std.proofs.lemmas.Bool.{cases_lt}
-use Rattle.std.proofs.lemmas.List.{length-map, get_or-map, get_or_past, nil_from_length}
+use Rattle.std.proofs.lemmas.List.{nil_from_length}
 use Rattle.viterbi.specs.Lists.{Begins, Counted, Shared}
 use Rattle.survivors.specs.Ring.{Written}
-use Rattle.survivors.specs.Trees.{Apart, Cleared, Ended, Layered, Next, Settling, Valid, chosen, from_of, tip_at, tip_of, tips_of}
+use Rattle.survivors.specs.Trees.{Apart, Layered, Next, Settling, Shed, path_of, tip_at}
 use Rattle.survivors.specs.Survivors.{Blank, Finished, Grown, HasTip, MayGrow, OnPath, PathOf, Settled, decided, path_to, taken}
 use Rattle.survivors.specs.declared.Survivors.{Survivors}
 use Rattle.survivors.proofs.Lists.{before_fork}
 use Rattle.survivors.proofs.Rings.{written_none}
-use Rattle.survivors.proofs.Sprouts.{from_some, from_none}
-use Rattle.survivors.proofs.Laws.{valid, tip_mode, tip_cell, cell_tip, tip_below, some_tip, decided_taken, path_to_none, room_live}
+use Rattle.survivors.proofs.Tips.{none_some}
+use Rattle.survivors.proofs.Finishes.{here, is_best, alone_path}
+use Rattle.survivors.proofs.Laws.{tip_is, has_tip, some_tip, decided_taken, path_to_none, path_to_length, room_live}
 
--- a choice that is given stands in the list
-given : (preds : List (Option ℕ)) (u p : ℕ) → get_or preds u None ≡ Some p → u < length preds
-given preds u p e = ⊎_elim
-    (λ (l : u < length preds). l)
-    (λ (l : length preds ≤ u). absurd (let f = get_or_past preds u None l in let z : ◌≡◌ {A = ℕ} 0 1 = cc in omega arith))
-    (cases_lt u (length preds))
+-- what `grow` needs of the tree
+pub next_of : (s : Survivors) (preds : List (Option ℕ)) → MayGrow s preds → Next s.tree s.tips preds
+next_of s preds g = record {
+  valid = s.valid;
+  many = g.few;
+  room = omega (arith, room_live s g.room.0 g.room.1, g.room.2);
+  bound = g.bound;
+  some = g.some;
+  mode = g.mode;
+  from = λ u p e d. tip_is s p (g.from u p e d);
+}
 
-some_of : (o : Option ℕ) → from_of o < 32 → o ≡ Some (from_of o)
-some_of (Some x) l = refl
-some_of None l = absurd (omega arith)
+pub grown_of : (s : Survivors) (preds : List (Option ℕ)) (t : Survivors) → Layered s.tree s.tips preds t.tree t.tips → Grown s preds t
+grown_of s preds t g = record {
+  one_more = g.top;
+  none_decided = g.base;
+  tips = λ u p e. let f = g.reach u p e in has_tip t u f.0 f.1;
+  paths = g.paths;
+  no_tip = λ u e h. let f = tip_is t u h in none_some (sym (g.unreach u e) ∙ f.1);
+}
 
-chosen_some : (preds : List (Option ℕ)) (u : ℕ) → u < length preds → get_or (chosen preds) u 0 < 32 → get_or preds u None ≡ Some (get_or (chosen preds) u 0)
-chosen_some preds u l k =
-    let e : get_or (chosen preds) u 0 ≡ from_of (get_or preds u None) = get_or-map from_of preds u None 0 l in
-    rw e (some_of (get_or preds u None) (omega (arith, e)))
-
--- what `grow` needs of the inner tree
-pub next_of : (s : Survivors) (preds : List (Option ℕ)) → MayGrow s preds → Next s.tree (chosen preds)
-next_of s preds g =
-    let n = length-map preds from_of in
-    let f = g.some in
-    let l = given preds f.0 f.1 f.2 in
-    record {
-      valid = valid s;
-      many = omega (arith, n, g.few);
-      room = omega (arith, n, room_live s g.room.0 g.room.1, g.room.2);
-      bound = g.bound;
-      some = (f.0, omega (arith, n, l), omega (arith, from_some preds f.0 f.1 l f.2, g.mode f.0 f.1 f.2));
-      from = λ u ul k d. tip_cell s.tree (valid s) (get_or (chosen preds) u 0) (g.from u (get_or (chosen preds) u 0) (chosen_some preds u (omega (arith, n)) k) d);
-    }
-
-pub grown_of : (s : Survivors) (preds : List (Option ℕ)) → MayGrow s preds → (t : Survivors) → Layered s.tree (chosen preds) t.tree → Grown s preds t
-grown_of s preds m t g =
-    let n = length-map preds from_of in
-    record {
-      one_more = g.top;
-      none_decided = g.base;
-      tips = λ u p e.
-          let l = given preds u p e in
-          cell_tip t.tree g.valid u (omega (arith, m.few)) (g.reach u (omega (arith, n)) (omega (arith, from_some preds u p l e, m.mode u p e)));
-      paths = λ u p e.
-          let l = given preds u p e in
-          let f = from_some preds u p l e in
-          g.paths u (omega (arith, n)) (omega (arith, f, m.mode u p e)) ∙ ap (λ (y : ℕ). path_to s y ++ u ∷ []) f;
-      no_tip = λ u e h.
-          let c = tip_cell t.tree g.valid u h in
-          ⊎_elim
-          (λ (l : u < length preds). omega (arith, c, g.unreach u (omega (arith, n)) (omega (arith, from_none preds u l e))))
-          (λ (l : length preds ≤ u). omega (arith, c, g.tips.beyond u (tip_mode t.tree g.valid u h) (omega (arith, n))))
-          (cases_lt u (length preds));
-    }
-
--- in a tree without undecided readings no mode has a tip
-no_tips : (t : Survivors) → Valid t.tree → decided t ≡ taken t → (u : ℕ) → HasTip t u → ⊥
-no_tips t r e u h = omega (arith, tip_cell t.tree r u h, r.none e u (tip_mode t.tree r u h))
+-- without undecided readings no mode has a tip
+no_tips : (t : Survivors) → decided t ≡ taken t → (u : ℕ) → HasTip t u → ⊥
+no_tips t e u h = let f = tip_is t u h in t.valid.none e u f.0 f.1
 
 no_live : (t : Survivors) → ((u : ℕ) → HasTip t u → ⊥) → Counted (OnPath t) 0
 no_live t none = record { pairs = []; many = refl; once = tt; all = λ i m o. absurd (none o.to o.tip); only = λ i m h. absurd h }
 
-module _ (s : Survivors) (ring : List ℕ) (t : Survivors) (ring' : List ℕ) (g : Settling s.tree ring t.tree ring') (most : decided t < taken t → Apart t.tree) where
-  still : decided t < taken t → (u : ℕ) → tip_at t.tree u < 1024 → tip_at s.tree u < 1024
-  still d u m = let e : tips_of t.tree ≡ tips_of s.tree = ap tips_of' (g.tips d) in rw e at m
-    where
-      tips_of' : List (Option ℕ) → List ℕ
-      tips_of' = map tip_of
+pub blank_of : (t : Survivors) → taken t ≡ 0 → decided t ≡ 0 → Blank t
+blank_of t p b = let none = no_tips t (b ∙ sym p) in record { none_taken = p; none_decided = b; no_tip = none; no_live = no_live t none }
+
+module _ (s : Survivors) {ring : List ℕ} (t : Survivors) {ring' : List ℕ} (g : Settling s.tree s.tips ring t.tree t.tips ring') (most : decided t < taken t → Apart t.tree t.tips) where
+  still : decided t < taken t → (u c : ℕ) → tip_at t.tips u ≡ Some c → HasTip s u
+  still d u c e = has_tip s u c (ap (λ (z : List (Option ℕ)). tip_at z u) (sym (g.same_tips d)) ∙ e)
 
   on : (u : ℕ) → HasTip s u → path_to s u ≡ g.out ++ path_to t u
-  on u h = g.paths u (tip_below s u h) (tip_cell s.tree (valid s) u h)
+  on u h = let f = tip_is s u h in g.paths u f.0 f.1
 
   -- where some reading is undecided, a shared beginning ends before two paths part
   undecided_most : (e : List ℕ) → Shared (taken s - decided s) (PathOf s) e → decided t < taken t → Begins e g.out
   undecided_most e h d =
       let a = most d in
-      let hu = cell_tip s.tree (valid s) a.u a.ul (still d a.u a.utip) in
-      let hv = cell_tip s.tree (valid s) a.v a.vl (still d a.v a.vtip) in
+      let hu = still d a.u a.c a.utip in
+      let hv = still d a.v a.d a.vtip in
       let bu = h.begins (path_to s a.u) (a.u, hu, refl) in
       let bv = h.begins (path_to s a.v) (a.v, hv, refl) in
       before_fork e g.out (path_to t a.u) (path_to t a.v) bu.0 bv.0 (sym (on a.u hu) ∙ bu.1) (sym (on a.v hv) ∙ bv.1) a.differ
@@ -115,21 +85,42 @@ module _ (s : Survivors) (ring : List ℕ) (t : Survivors) (ring' : List ℕ) (g
     more_decided = g.base;
     written = g.written;
     paths = on;
-    tips = λ u h d. rw (g.tips d) h;
-    no_tip = λ u h. ⊎_elim
-        (λ (d : decided t < taken t). (rw (g.tips d) at h, d))
-        (λ (d : taken t ≤ decided t). absurd (no_tips t g.valid (omega (arith, g.valid.holds.shape.span)) u h))
+    tips = λ u h d. rw (g.same_tips d) h;
+    no_tip = λ u h. let f = tip_is t u h in ⊎_elim
+        (λ (d : decided t < taken t). (still d u f.0 f.1, d))
+        (λ (d : taken t ≤ decided t). absurd (no_tips t (omega (arith, g.valid.holds.shape.span)) u h))
         (cases_lt (decided t) (taken t));
   }
 
-pub finished_of : (s : Survivors) (best : ℕ) (ring : List ℕ) (t : Survivors) (ring' : List ℕ) → Ended s.tree best ring t.tree ring' → Finished s best ring t ring'
-finished_of s best ring t ring' g = record {
-  none_taken = g.top;
-  all_decided = g.base;
-  written = g.written;
-  no_tip = no_tips t g.valid (g.base ∙ sym g.top);
-  no_live = no_live t (no_tips t g.valid (g.base ∙ sym g.top));
-}
+-- s' is s with best's tip alone: all of its path is decided, since no other path parts from it
+pub finished_of : (s : Survivors) (best c : ℕ) (e : tip_at s.tips best ≡ Some c) (s' : Survivors) (d : Shed s.tree (set s.tips best None) s'.tree) → s'.tips ≡ set (replicate 32 None) best (Some c)
+    → {ring : List ℕ} {t : Survivors} {ring' : List ℕ} → Settled s' ring t ring' → Finished s best ring t ring'
+finished_of s best c e s' d a {ring} {t} {ring'} g =
+    let n = path_to_length s' best in
+    let b = g.longest.longest (path_to s' best) (record { within = omega (arith, n); begins = λ q f. ([], only q f ∙ sym (append-nil (path_to s' best))) }) in
+    let all : decided t ≡ taken t = omega (arith, g.more_decided, g.none_taken, decided_taken t, decided_taken s', n, ap length b.1, length-append (path_to s' best) b.0) in
+    let none = no_tips t all in
+    record {
+      none_taken = g.none_taken ∙ d.top;
+      all_decided = all ∙ g.none_taken ∙ d.top;
+      written = subst (λ (k : ℕ). Written ring k (path_to s best) ring') d.base (subst (λ (z : List ℕ). Written ring (decided s') z ring') (out (omega arith)) g.written);
+      no_tip = none;
+      no_live = no_live t none;
+    }
+  where
+    tip : HasTip s' best
+    tip = has_tip s' best c (ap (λ (z : List (Option ℕ)). tip_at z best) a ∙ here s.valid best c e d)
+
+    only : (q : List ℕ) → PathOf s' q → q ≡ path_to s' best
+    only q f =
+        let k = tip_is s' f.0 f.1 in
+        f.2 ∙ ap (path_to s') (is_best s.valid best c e d f.0 k.0 (ap (λ (z : List (Option ℕ)). tip_at z f.0) (sym a) ∙ k.1)).0
+
+    path_same : path_to s' best ≡ path_to s best
+    path_same = ap (λ (z : List (Option ℕ)). path_of s'.tree z best) a ∙ alone_path s.valid best c e d
+
+    out : taken t ≤ decided t → g.out ≡ path_to s best
+    out l = sym (append-nil g.out) ∙ ap (λ (z : List ℕ). g.out ++ z) (sym (path_to_none t best l)) ∙ sym (g.paths best tip) ∙ path_same
 
 -- with no undecided reading, nothing happens
 pub finished_none : (s : Survivors) (best : ℕ) (ring : List ℕ) → taken s ≤ decided s → Finished s best ring s ring
@@ -139,11 +130,6 @@ finished_none s best ring l =
       none_taken = refl;
       all_decided = e;
       written = subst (λ (z : List ℕ). Written ring (decided s) z ring) (sym (path_to_none s best l)) (written_none ring (decided s));
-      no_tip = no_tips s (valid s) e;
-      no_live = no_live s (no_tips s (valid s) e);
+      no_tip = no_tips s e;
+      no_live = no_live s (no_tips s e);
     }
-
-pub blank_of : (s : Survivors) → Cleared s.tree → Blank s
-blank_of s b =
-    let none = no_tips s b.valid (b.base ∙ sym b.top) in
-    record { none_taken = b.top; none_decided = b.base; no_tip = none; no_live = no_live s none }

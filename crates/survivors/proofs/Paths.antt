@@ -1,15 +1,16 @@
 -- Cells and the paths that they lie on.
-use Rattle.std.proofs.Common.{◌≡◌, ℕ, zero, suc, ◌+◌, ◌-◌, ◌<◌, ◌≤◌, cond, eqb, ◌≢◌, ◌⊎◌, List, [], ◌∷◌, length, get_or, sym, refl, ap, ◌∙◌, inl, inr, ⊎_elim, arith}
-use Rattle.std.proofs.lemmas.Bool.{cases_eq, cases_lt, ne_eqb}
+use Rattle.std.proofs.Common.{◌≡◌, ℕ, zero, suc, ◌+◌, ◌-◌, ◌<◌, ◌≤◌, ◌≢◌, List, [], ◌∷◌, length, get_or, Some, Option, sym, refl, ap, ◌∙◌, ⊎_elim, arith}
+use Rattle.std.proofs.lemmas.Bool.{cases_eq, cases_lt}
 use Rattle.std.proofs.lemmas.List.{length_push, get_or_push, get_or_append_left}
 use Rattle.survivors.specs.Cells.{at, one, owner, path, share, under}
-use Rattle.survivors.specs.Trees.{Apart, Valid, held, path_of, tip_at, tips_of}
+use Rattle.survivors.specs.Trees.{Apart, Valid, held, path_of, tip_at}
 use Rattle.survivors.specs.declared.tree.Cell.{Cell}
 use Rattle.survivors.specs.declared.tree.Tree.{Tree}
 use Rattle.survivors.proofs.Tallies.{tally_ge, tally_some, tally_pair}
 use Rattle.survivors.proofs.Shares.{owner_oldest, owner_parent, owner_used, share_mine, share_bound}
 use Rattle.survivors.proofs.Roots.{seen, oldest_by}
-use Rattle.survivors.proofs.Sprouts.{tip_used}
+use Rattle.survivors.proofs.Decides.{path_is, tip_used}
+use Rattle.survivors.proofs.Tips.{held_by, some_or_none}
 
 -- the cell k layers above c
 abbrev pub above : List Cell → ℕ → ℕ → ℕ
@@ -50,18 +51,7 @@ path_read cs d n j c x e l q = ap (λ (k : ℕ). get_or (path cs k c) j 0) e ∙
 above_one : (cs : List Cell) (a b p : ℕ) → a ≡ b → (at cs b).parent ≡ p → (at cs a).parent ≡ p
 above_one cs a b p e q = ap (λ (z : ℕ). (at cs z).parent) e ∙ q
 
--- a tip, or none
-pub find : (tips : List ℕ) (n : ℕ) → ((u : ℕ) × (u < n) × (get_or tips u 0 < 1024)) ⊎ ((u : ℕ) → u < n → 1024 ≤ get_or tips u 0)
-find tips zero = inr (λ u l. absurd (omega arith))
-find tips (suc n) = ⊎_elim
-    (λ (k : get_or tips n 0 < 1024). inl (n, omega arith, k))
-    (λ (k : 1024 ≤ get_or tips n 0). ⊎_elim
-    (λ f. inl (f.0, omega (arith, f.1), f.2))
-    (λ none. inr (λ u l. ⊎_elim (λ (e : u ≡ n). rw e k) (λ (ne : u ≡ n → ⊥). none u (omega arith)) (cases_eq u n)))
-    (find tips n))
-    (cases_lt (get_or tips n 0) 1024)
-
-module _ (s : Tree) (r : Valid s) where
+module _ {s : Tree} {tips : List (Option ℕ)} (r : Valid s tips) where
   -- the cells
   abbrev cs : List Cell
   cs = s.cells
@@ -93,66 +83,50 @@ module _ (s : Tree) (r : Valid s) where
       let st : (at cs (at cs y).parent).layer + 1 ≡ (at cs y).layer = t.shape.step y f.1 v.0 (omega (arith, t.shape.low y f.1 v.0, young)) in
       (y, f.1, v.0, p, rw p at st)
 
-  tip : (x : ℕ) → 0 < held (tips_of s) x → (u : ℕ) × (u < 32) × (tip_at s u ≡ x)
-  tip x k =
-      let f = tally_some (λ u. cond (eqb (tip_at s u) x) 1 0) 32 k in
-      (f.0, f.1, ⊎_elim (λ (e : tip_at s f.0 ≡ x). e) (λ (ne : tip_at s f.0 ≡ x → ⊥). absurd (omega (arith, f.2, off f.0 ne))) (cases_eq (tip_at s f.0) x))
-    where
-      off : (u : ℕ) → tip_at s u ≢ x → ◌≡◌ {A = ℕ} (cond (eqb (tip_at s u) x) 1 0) 0
-      off u ne = rw (ne_eqb (tip_at s u) x ne) refl
-
   -- every cell in use is above a tip
-  lies_on_path : (k x : ℕ) → x < 1024 → 0 < (at cs x).refs → (at cs x).layer + suc k ≡ s.top → (u : ℕ) × (u < 32) × (tip_at s u < 1024) × (above cs k (tip_at s u) ≡ x)
+  lies_on_path : (k x : ℕ) → x < 1024 → 0 < (at cs x).refs → (at cs x).layer + suc k ≡ s.top → (u : ℕ) × (c : ℕ) × (tip_at tips u ≡ Some c) × (above cs k c ≡ x)
   lies_on_path zero x l u e =
       ⊎_elim
-      (λ (h : 0 < held (tips_of s) x). let t = tip x h in (t.0, t.1, omega (arith, t.2), t.2))
-      (λ (h : held (tips_of s) x ≤ 0).
+      (λ (h : 0 < held tips x). let t = held_by tips x h in (t.0, x, t.1, refl))
+      (λ (h : held tips x ≤ 0).
       let y = kid x l (omega (arith, r.holds.count x l)) in
       absurd (omega (arith, r.old y.0 y.1 y.2, y.4)))
-      (cases_lt 0 (held (tips_of s) x))
+      (cases_lt 0 (held tips x))
   lies_on_path (suc k) x l u e =
       ⊎_elim
-      (λ (h : 0 < held (tips_of s) x).
-      let t = tip x h in
-      let q : (at cs (tip_at s t.0)).layer + 1 ≡ s.top = r.newest t.0 t.1 (omega (arith, t.2)) in
-      let q' : (at cs x).layer + 1 ≡ s.top = rw t.2 at q in
-      absurd (omega arith))
-      (λ (h : held (tips_of s) x ≤ 0).
+      (λ (h : 0 < held tips x). let t = held_by tips x h in absurd (omega (arith, r.newest t.0 x t.1)))
+      (λ (h : held tips x ≤ 0).
       let y = kid x l (omega (arith, r.holds.count x l)) in
       let i = lies_on_path k y.0 y.1 y.2 (omega (arith, y.4)) in
-      (i.0, i.1, i.2, above_one cs (above cs k (tip_at s i.0)) y.0 x i.3 y.3))
-      (cases_lt 0 (held (tips_of s) x))
+      (i.0, i.1, i.2, above_one cs (above cs k i.1) y.0 x i.3 y.3))
+      (cases_lt 0 (held tips x))
 
   -- what a cell in use is on the path of some mode
-  pub on_place : (j x : ℕ) → x < 1024 → 0 < (at cs x).refs → (at cs x).layer ≡ s.base + j → (u : ℕ) × (u < 32) × (tip_at s u < 1024) × (get_or (path_of s u) j 0 ≡ (at cs x).mode)
+  pub on_place : (j x : ℕ) → x < 1024 → 0 < (at cs x).refs → (at cs x).layer ≡ s.base + j → (u : ℕ) × (c : ℕ) × (tip_at tips u ≡ Some c) × (get_or (path_of s tips u) j 0 ≡ (at cs x).mode)
   on_place j x l u e =
       let lt = r.old x l u in
       let n = s.top - (s.base + 1) in
       let p = lies_on_path (n - j) x l u (omega arith) in
       let z : s.top - s.base ≡ suc n = omega arith in
-      let jl : j < suc n = omega arith in (
-        p.0,
-        p.1,
-        p.2,
-        path_read cs (s.top - s.base) n j (tip_at s p.0) x z jl p.3,
-      )
+      let jl : j < suc n = omega arith in
+      (p.0, p.1, p.2, ap (λ (y : List ℕ). get_or y j 0) (path_is s tips p.0 p.1 p.2) ∙ path_read cs (s.top - s.base) n j p.1 x z jl p.3)
 
   -- and what is on the path of a mode is a cell in use
-  pub at_place : (j u : ℕ) → u < 32 → tip_at s u < 1024 → s.base + j < s.top → (x : ℕ) × (x < 1024) × (0 < (at cs x).refs) × ((at cs x).layer ≡ s.base + j) × (get_or (path_of s u) j 0 ≡ (at cs x).mode)
-  at_place j u l m d =
+  pub at_place : (j u c : ℕ) → tip_at tips u ≡ Some c → s.base + j < s.top → (x : ℕ) × (x < 1024) × (0 < (at cs x).refs) × ((at cs x).layer ≡ s.base + j) × (get_or (path_of s tips u) j 0 ≡ (at cs x).mode)
+  at_place j u c m d =
       let n = s.top - (s.base + 1) in
       let z : s.top - s.base ≡ suc n = omega arith in
       let jl : j < suc n = omega arith in
-      let a = above_used (n - j) j (tip_at s u) m (tip_used s r u l m) (omega (arith, r.newest u l m)) in (
-        above cs (n - j) (tip_at s u),
+      let a = above_used (n - j) j c (r.real u c m) (tip_used r u c m) (omega (arith, r.newest u c m)) in (
+        above cs (n - j) c,
         a.0,
         a.1,
         a.2,
-        path_read cs (s.top - s.base) n j (tip_at s u) (above cs (n - j) (tip_at s u)) z jl refl,
+        ap (λ (y : List ℕ). get_or y j 0) (path_is s tips u c m) ∙ path_read cs (s.top - s.base) n j c (above cs (n - j) c) z jl refl,
       )
 
   -- two cells of the oldest layer lie on paths that part there
-  two_roots : (x y : ℕ) → x < 1024 → y < 1024 → x ≢ y → 0 < (at cs x).refs → 0 < (at cs y).refs → (at cs x).layer ≡ s.base → (at cs y).layer ≡ s.base → Apart s
+  two_roots : (x y : ℕ) → x < 1024 → y < 1024 → x ≢ y → 0 < (at cs x).refs → 0 < (at cs y).refs → (at cs x).layer ≡ s.base → (at cs y).layer ≡ s.base → Apart s tips
   two_roots x y xl yl ne xu yu xb yb =
       let a = on_place 0 x xl xu (omega arith) in
       let b = on_place 0 y yl yu (omega arith) in
@@ -160,18 +134,18 @@ module _ (s : Tree) (r : Valid s) where
       record {
         u = a.0;
         v = b.0;
-        ul = a.1;
-        vl = b.1;
+        c = a.1;
+        d = b.1;
         utip = a.2;
         vtip = b.2;
-        differ = same (get_or (path_of s a.0) 0 0) (get_or (path_of s b.0) 0 0) a.3 b.3;
+        differ = same (get_or (path_of s tips a.0) 0 0) (get_or (path_of s tips b.0) 0 0) a.3 b.3;
       }
 
   -- where the oldest layer has not one cell, two paths part
-  pub parted : s.width ≢ 1 → s.base < s.top → Apart s
+  pub parted : s.width ≢ 1 → s.base < s.top → Apart s tips
   parted ne d =
       let t = r.holds in
-      let w : (u : ℕ) × (u < 32) × (tip_at s u < 1024) = ⊎_elim (λ f. f) (λ none. absurd (r.any d none)) (find (tips_of s) 32) in
+      let w = ⊎_elim (λ (f : (u : ℕ) × (c : ℕ) × (tip_at tips u ≡ Some c)). f) (λ none. absurd (r.any d none)) (some_or_none tips) in
       let b = at_place 0 w.0 w.1 w.2 (omega arith) in
       let mine : share one cs s.base 1024 b.0 ≡ 1 = share_mine one cs s.base 1024 b.0 b.2 (owner_oldest cs s.base b.0 (omega (arith, b.3))) in
       let wide : 1 < under one cs s.base 1024 = omega (arith, tally_ge (share one cs s.base 1024) b.0 1024 b.1, t.wide, ne) in

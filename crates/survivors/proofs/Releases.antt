@@ -1,5 +1,5 @@
 -- The tree after a reference to a cell is given back.
-use Rattle.std.proofs.Common.{◌≡◌, ℕ, ◌+◌, ◌-◌, ◌<◌, ◌≤◌, Bool, cond, ltb, ◌≢◌, List, length, get_or, set, sym, refl, ap, ◌∙◌, subst, ⊎_elim, arith}
+use Rattle.std.proofs.Common.{◌≡◌, ℕ, ◌+◌, ◌-◌, ◌<◌, ◌≤◌, Bool, cond, ltb, ◌≢◌, List, [], ◌∷◌, ◌++◌, length, get_or, sym, refl, ap, ◌∙◌, subst, ⊎_elim, arith}
 use Rattle.std.proofs.lemmas.Bool.{cases_eq, lt-ltb}
 use Rattle.std.proofs.lemmas.List.{length-set}
 use Rattle.survivors.specs.Cells.{Kept, Links, Same, at, in_use, one, owner, place, plus, recount, share, under}
@@ -12,7 +12,7 @@ use Rattle.survivors.proofs.Freed.{Gone, gone_kept, under_owner, under_other, st
 abbrev pub lowered : List Cell → ℕ → List Cell
 lowered cs c = recount cs c ((at cs c).refs - 1) (at cs c).heirs
 
-module _ {cs : List Cell} {free : List ℕ} {room base top width first : ℕ} (h : ℕ → ℕ) (c : ℕ) (l : c < 1024) (t : Links cs free room base top width first (plus h c)) where
+module _ {cs : List Cell} {free : List ℕ} {base top width first : ℕ} (h : ℕ → ℕ) (c : ℕ) (l : c < 1024) (t : Links cs free base top width first (plus h c)) where
   fits : c < length cs
   fits = omega (arith, t.size)
 
@@ -20,7 +20,7 @@ module _ {cs : List Cell} {free : List ℕ} {room base top width first : ℕ} (h
   pub some : 0 < (at cs c).refs
   some = omega (arith, t.count c l, plus_here h c)
 
-  pub room_left : room < 1024
+  pub room_left : length free < 1024
   room_left =
       let f : ℕ → ℕ = λ x. cond (ltb 0 (at cs x).refs) 1 0 in
       let a : f c ≡ 1 = rw (lt-ltb 0 (at cs c).refs some) refl in
@@ -59,7 +59,7 @@ module _ {cs : List Cell} {free : List ℕ} {room base top width first : ℕ} (h
       same = low_same;
     }
 
-    pub stay : Links (lowered cs c) free room base top width first h
+    pub stay : Links (lowered cs c) free base top width first h
     stay =
         let uses : in_use cs ≡ in_use (lowered cs c) =
         tally_same (λ x. cond (ltb 0 (at cs x).refs) 1 0) (λ x. cond (ltb 0 (at (lowered cs c) x).refs) 1 0) 1024 (λ x m. ap (λ (b : Bool). cond b 1 0) (sym (use_same x))) in
@@ -67,7 +67,6 @@ module _ {cs : List Cell} {free : List ℕ} {room base top width first : ℕ} (h
           size = length-set cs c _ ∙ t.size;
           shape = shape_kept cs (lowered cs c) base top stay_kept t.shape;
           stack = record {
-            span = t.stack.span;
             live = omega (arith, t.stack.live, uses);
             below = t.stack.below;
             empty = λ k m.
@@ -109,11 +108,11 @@ module _ {cs : List Cell} {free : List ℕ} {room base top width first : ℕ} (h
       pub first_left : c ≤ first
       first_left = omega (arith, t.oldest, less place)
 
-      pub end : Links (lowered cs c) (set free room c) (room + 1) base top (width - 1) (first - c) h
+      pub end : Links (lowered cs c) (free ++ c ∷ []) base top (width - 1) (first - c) h
       end = record {
         size = length-set cs c _ ∙ t.size;
         shape = shape_kept cs (lowered cs c) base top (gone_kept cs (lowered cs c) c low_gone) t.shape;
-        stack = stack_more cs (lowered cs c) c low_gone free room t.stack;
+        stack = stack_more cs (lowered cs c) c low_gone free t.stack;
         count = λ x m.
             ⊎_elim
             (λ (e : x ≡ c). subst (λ (y : ℕ). (at (lowered cs c) y).refs ≡ under one (lowered cs c) base y + h y) (sym e) (omega (arith, low_here, t.count c l, plus_here h c, last, others one c l)))
@@ -184,11 +183,11 @@ module _ {cs : List Cell} {free : List ℕ} {room base top width first : ℕ} (h
       others_m : (w : ℕ → ℕ) (x : ℕ) → x ≢ (at cs c).parent → under w moved base x ≡ under w cs base x
       others_m w x ne = under_other cs moved c moved_gone w base x (λ q. ne (sym q ∙ own_p))
 
-      pub on : Links moved (set free room c) (room + 1) base top width first (plus h (at cs c).parent)
+      pub on : Links moved (free ++ c ∷ []) base top width first (plus h (at cs c).parent)
       on = record {
         size = length-set (lowered cs c) _ _ ∙ length-set cs c _ ∙ t.size;
         shape = shape_kept cs moved base top (gone_kept cs moved c moved_gone) t.shape;
-        stack = stack_more cs moved c moved_gone free room t.stack;
+        stack = stack_more cs moved c moved_gone free t.stack;
         count = λ x m.
             ⊎_elim
             (λ (e : x ≡ (at cs c).parent). subst (λ (y : ℕ). (at moved y).refs ≡ under one moved base y + plus h (at cs c).parent y) (sym e)

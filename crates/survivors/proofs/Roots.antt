@@ -1,5 +1,5 @@
 -- The oldest layer has one cell, and that cell is decided.
-use Rattle.std.proofs.Common.{◌≡◌, ℕ, zero, suc, ◌+◌, ◌<◌, ◌≤◌, ◌≢◌, List, [], ◌∷◌, length, set, sym, refl, ap, ◌∙◌, subst, ⊎_elim, arith}
+use Rattle.std.proofs.Common.{◌≡◌, ℕ, zero, suc, ◌+◌, ◌<◌, ◌≤◌, ◌≢◌, List, [], ◌∷◌, ◌++◌, length, sym, refl, ap, ◌∙◌, subst, ⊎_elim, arith}
 use Rattle.std.proofs.lemmas.Bool.{cases_eq, cases_lt}
 use Rattle.std.proofs.lemmas.List.{length-set}
 use Rattle.survivors.specs.Cells.{Kept, Links, at, one, owner, path, place, recount, share, under}
@@ -8,7 +8,7 @@ use Rattle.survivors.proofs.Tallies.{tally_same, tally_two, tally_some, tally_on
 use Rattle.survivors.proofs.Shares.{recount_other, recount_refs, recount_same, share_none, share_mine, share_not, share_zero, owner_oldest, owner_parent, owner_used}
 use Rattle.survivors.proofs.Freed.{Gone, gone_kept, stack_more}
 
-module _ {cs : List Cell} {free : List ℕ} {room base top width first : ℕ} {h : ℕ → ℕ} (t : Links cs free room base top width first h) where
+module _ {cs : List Cell} {free : List ℕ} {base top width first : ℕ} {h : ℕ → ℕ} (t : Links cs free base top width first h) where
   -- a cell in use whose owner is the root is in the oldest layer
   pub oldest_by : (x : ℕ) → x < 1024 → 0 < (at cs x).refs → owner cs base x ≡ 1024 → (at cs x).layer ≡ base
   oldest_by x l u e = ⊎_elim
@@ -181,7 +181,7 @@ module _ {cs : List Cell} {free : List ℕ} {room base top width first : ℕ} {h
         ∙ sym (share_not w cs base first x (λ q. third x l u' d (sym (owner_parent cs base x n2) ∙ q))))
 
     pub decide : (h' : ℕ → ℕ) → ((x : ℕ) → x < 1024 → x ≢ first → h' x ≡ h x) → h' first ≡ 0 → base < top
-        → Links rootless (set free room first) (room + 1) (base + 1) top (under one cs base first) (under place cs base first) h'
+        → Links rootless (free ++ first ∷ []) (base + 1) top (under one cs base first) (under place cs base first) h'
     decide h' same none more =
         record {
           size = length-set cs first _ ∙ t.size;
@@ -196,7 +196,7 @@ module _ {cs : List Cell} {free : List ℕ} {room base top width first : ℕ} {h
             small = λ x l u. rw (root_gone.same.mode x l) (t.shape.small x l (root_kept.used x l u));
             lone = λ x y l m u v e f. t.shape.lone x y l m (root_kept.used x l u) (root_kept.used y m v) (sym (root_gone.same.layer x l) ∙ e ∙ root_gone.same.layer y m) (sym (root_gone.same.mode x l) ∙ f ∙ root_gone.same.mode y m);
           };
-          stack = stack_more cs rootless first root_gone free room t.stack;
+          stack = stack_more cs rootless first root_gone free t.stack;
           count = λ x l. ⊎_elim
               (λ (e : x ≡ first). subst (λ (y : ℕ). (at rootless y).refs ≡ under one rootless (base + 1) y + h' y) (sym e)
               (omega (arith, root_gone.none, tally_none (share one rootless (base + 1) first) 1024 (share_first one))))

@@ -2,7 +2,7 @@
 use Rattle.std.proofs.Common.{◌≡◌, ℕ, ◌+◌, ◌<◌, ◌≤◌, Bool, true, false, cond, eqb, ltb, ◌≢◌, List, length, sym, refl, ap, ◌∙◌, subst, ⊎_elim, arith}
 use Rattle.std.proofs.lemmas.Bool.{cases_eq, lt-ltb, eq-eqb, ne_eqb}
 use Rattle.std.proofs.lemmas.List.{get_or-set_same, get_or-set_other}
-use Rattle.survivors.specs.Cells.{Kept, Same, Shape, at, one, owner, place, plus, recount, share, under, void}
+use Rattle.survivors.specs.Cells.{Kept, Links, Same, Shape, at, one, owner, place, plus, recount, share, under, void}
 use Rattle.survivors.specs.declared.tree.Cell.{Cell}
 use Rattle.survivors.proofs.Tallies.{tally_ge, tally_none, tally_bound}
 
@@ -28,6 +28,14 @@ module _ (cs : List Cell) (i r k : ℕ) (l : i < length cs) where
         parent = λ x _. any ℕ (λ v. v.parent) (ap (λ (v : Cell). v.parent) recount_here) x;
         mode = λ x _. any ℕ (λ v. v.mode) (ap (λ (v : Cell). v.mode) recount_here) x;
       }
+
+-- the same links, where the free cells are the same list
+pub links_at : {cs : List Cell} {free free' : List ℕ} {base top width first : ℕ} {h : ℕ → ℕ} → free' ≡ free → Links cs free base top width first h → Links cs free' base top width first h
+links_at {cs} {free} {free'} {base} {top} {width} {first} {h} e t = subst (λ (z : List ℕ). Links cs z base top width first h) (sym e) t
+
+-- only what is held of the cells matters
+pub links_held : {cs : List Cell} {free : List ℕ} {base top width first : ℕ} {h h' : ℕ → ℕ} → ((x : ℕ) → x < 1024 → h x ≡ h' x) → Links cs free base top width first h → Links cs free base top width first h'
+links_held e t = record { size = t.size; shape = t.shape; stack = t.stack; count = λ x l. omega (arith, t.count x l, e x l); heir = t.heir; wide = t.wide; oldest = t.oldest }
 
 pub same_same : (a b c : List Cell) → Same a b → Same b c → Same a c
 same_same a b c p q =

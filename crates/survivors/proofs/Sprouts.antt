@@ -1,96 +1,74 @@
--- One turn of `sprout`.
-use Rattle.std.proofs.Common.{◌≡◌, ℕ, zero, suc, ◌+◌, ◌-◌, ◌<◌, ◌≤◌, ◌≢◌, ◌⊎◌, List, [], ◌∷◌, ◌++◌, map, length, get_or, set, Some, None, Option, sym, refl, ap, ◌∙◌, subst, inl, inr, ⊎_elim, arith}
+-- One turn of `sprout`, and the tree after `grow`.
+use Rattle.std.proofs.Common.{◌≡◌, ℕ, zero, suc, ◌+◌, ◌-◌, ◌<◌, ◌≤◌, ◌≢◌, ◌⊎◌, List, [], ◌∷◌, ◌++◌, length, get_or, set, replicate, Some, None, Option, sym, refl, ap, ◌∙◌, subst, inl, inr, ⊎_elim, arith}
 use Rattle.std.proofs.lemmas.Bool.{cases_eq, cases_lt}
-use Rattle.std.proofs.lemmas.List.{get_or-set_same, get_or-set_other, get_or-map}
+use Rattle.std.proofs.lemmas.List.{get_or-set_same, get_or-set_other, length-set, length-replicate}
 use Rattle.survivors.specs.Cells.{at, one, owner, path, under}
-use Rattle.survivors.specs.Trees.{Attached, Holds, Layered, Next, Ready, Real, Shed, Sprout, Tips, Valid, both, chosen, from_of, held, path_of, tip_at, tip_of, tips_of}
+use Rattle.survivors.specs.Trees.{Attached, Holds, Layered, Next, Ready, Shed, Sprout, Valid, both, held, path_of, tip_at}
 use Rattle.survivors.specs.declared.tree.Cell.{Cell}
 use Rattle.survivors.specs.declared.tree.Tree.{Tree}
-use Rattle.survivors.proofs.Shares.{owner_parent, owner_used}
-use Rattle.survivors.proofs.Decides.{held_none}
-use Rattle.survivors.proofs.Tips.{tree_held, held_bound, held_some, held_put, tips_set}
+use Rattle.survivors.proofs.Shares.{links_held, owner_parent, owner_used}
+use Rattle.survivors.proofs.Decides.{path_is, tip_used}
+use Rattle.survivors.proofs.Tips.{none_some, no_tips, blank_at, held_bound, held_none, held_put, held_some, plus_add, real_set, tip_below}
 
-tips_more : (tips : List ℕ) (n : ℕ) → Tips tips n → Tips tips (n + 1)
-tips_more tips n t = record { many = t.many; each = t.each; beyond = λ u l k. t.beyond u l (omega arith) }
-
--- the tip of a mode is in use
-pub tip_used : (s : Tree) (r : Valid s) (u : ℕ) → u < 32 → tip_at s u < 1024 → 0 < (at s.cells (tip_at s u)).refs
-tip_used s r u l m = omega (arith, r.holds.count (tip_at s u) m, held_some (tips_of s) u l)
-
-module _ (o : Tree) (preds : List ℕ) (x : Next o preds) (n : ℕ) (s : Tree) (new : List ℕ) (g : Sprout o preds n s new) (l : n < length preds) where
+module _ {o : Tree} {tips preds : List (Option ℕ)} (x : Next o tips preds) {n : ℕ} {s : Tree} {new : List (Option ℕ)} (g : Sprout o tips preds n s new) (l : n < length preds) where
   n_few : n < 32
   n_few = omega (arith, x.many)
 
-  new_used : (u : ℕ) → u < 32 → get_or new u 0 < 1024 → 0 < (at s.cells (get_or new u 0)).refs
-  new_used u ul m = omega (arith, g.holds.count (get_or new u 0) m, held_some new u ul)
-
-  pub skip : 32 ≤ get_or preds n 0 → Sprout o preds (n + 1) s new
-  skip far = record {
+  pub skip : get_or preds n None ≡ None → Sprout o tips preds (n + 1) s new
+  skip none = record {
     holds = g.holds;
-    tips = tips_more new n g.tips;
+    many = g.many;
+    real = g.real;
+    beyond = λ u m. g.beyond u (omega arith);
     base = g.base;
     top = g.top;
-    old_tips = g.old_tips;
-    modes = g.modes;
     room = omega (arith, g.room);
     young = λ y yl u e. omega (arith, g.young y yl u e);
     uses = g.uses;
     layer = g.layer;
     parent = g.parent;
     mode = g.mode;
-    reach = λ u ul k. g.reach u (before u ul k) k;
-    new_layer = λ u ul k. g.new_layer u (before u ul k) k;
-    new_parent = λ u ul k. g.new_parent u (before u ul k) k;
-    new_mode = λ u ul k. g.new_mode u (before u ul k) k;
-    unreach = λ u ul k. ⊎_elim
-        (λ (e : u ≡ n). rw e (g.tips.beyond n n_few (omega arith)))
-        (λ (ne : u ≡ n → ⊥). g.unreach u (omega arith) k)
+    reach = λ u p m e. ⊎_elim
+        (λ (q : u ≡ n). absurd (none_some (sym none ∙ sym (ap (λ (v : ℕ). get_or preds v None) q) ∙ e)))
+        (λ (ne : u ≡ n → ⊥). g.reach u p (omega arith) e)
         (cases_eq u n);
+    unreach = g.unreach;
+    new_layer = g.new_layer;
+    new_parent = g.new_parent;
+    new_mode = g.new_mode;
   }
-    where
-      before : (u : ℕ) → u < n + 1 → get_or preds u 0 < 32 → u < n
-      before u ul k = ⊎_elim
-          (λ (e : u ≡ n). let k' : get_or preds n 0 < 32 = rw e at k in omega arith)
-          (λ (ne : u ≡ n → ⊥). omega arith)
-          (cases_eq u n)
 
-  module _ (near : get_or preds n 0 < 32) where
-    -- the cell that the mode n goes on from
-    abbrev p : ℕ
-    p = tip_at s (get_or preds n 0)
+  module _ {p : ℕ} (is : get_or preds n None ≡ Some p) where
+    deep : (c : ℕ) → tip_at tips p ≡ Some c → o.base < o.top
+    deep c e = ⊎_elim
+        (λ (k : o.base < o.top). k)
+        (λ (k : o.top ≤ o.base). absurd (x.valid.none (omega (arith, x.valid.holds.shape.span)) p c e))
+        (cases_lt o.base o.top)
 
-    p_is : tip_at s (get_or preds n 0) ≡ tip_at o (get_or preds n 0)
-    p_is = ap (λ (z : List ℕ). get_or z (get_or preds n 0) 0) g.old_tips
-
-    deep : s.base < s.top → o.base < o.top
-    deep d = omega (arith, g.base, g.top)
-
-    p_below : s.base < s.top → tip_at o (get_or preds n 0) < 1024
-    p_below d = x.from n l near (deep d)
-
-    p_used : (d : s.base < s.top) → 0 < (at o.cells (tip_at o (get_or preds n 0))).refs
-    p_used d = tip_used o x.valid (get_or preds n 0) near (p_below d)
-
-    pub ready : Ready s (both new (held (tips_of o))) n (tip_at s (get_or preds n 0))
+    pub ready : Ready s (both new (held tips)) n (tip_at tips p)
     ready = record {
       holds = g.holds;
+      few = λ y. omega (arith, held_bound new y, g.many, held_bound tips y, x.valid.many);
       small = n_few;
-      few = λ y. omega (arith, held_bound new y, held_bound (tips_of o) y);
       room = omega (arith, g.room, x.room);
       fresh = λ y yl u e q. omega (arith, g.young y yl u (e ∙ g.top), q);
-      below = λ d. rw p_is (p_below d);
-      used = λ d. rw p_is (g.uses (tip_at o (get_or preds n 0)) (p_below d) (p_used d));
-      layer = λ d. rw (p_is, g.layer (tip_at o (get_or preds n 0)) (p_below d) (p_used d)) (x.valid.newest (get_or preds n 0) near (p_below d) ∙ sym g.top);
+      oldest = λ e. ⊎_elim
+          (λ (k : o.base < o.top). let f = x.from n p is k in absurd (none_some (sym e ∙ f.1)))
+          (λ (k : o.top ≤ o.base). omega (arith, g.base, g.top, x.valid.holds.shape.span))
+          (cases_lt o.base o.top);
+      below = x.valid.real p;
+      used = λ c e. g.uses c (x.valid.real p c e) (tip_used x.valid p c e);
+      layer = λ c e. rw (g.layer c (x.valid.real p c e) (tip_used x.valid p c e)) (x.valid.newest p c e ∙ sym g.top);
     }
 
-    pub grown : (i : ℕ) (t : Tree) → Attached s n (tip_at s (get_or preds n 0)) i t → Sprout o preds (n + 1) t (set new n i)
-    grown i t a = record {
-      holds = tree_held (held_put new (held (tips_of o)) n i g.tips.many n_few (g.tips.beyond n n_few (omega arith))) (a.holds (both new (held (tips_of o))) g.holds);
-      tips = tips_set new (n + 1) n i (tips_more new n g.tips) (omega arith) (omega (arith, n_few)) (omega (arith, a.below));
+    pub grown : {i : ℕ} {t : Tree} → Attached s n (tip_at tips p) i t → Sprout o tips preds (n + 1) t (set new n (Some i))
+    grown {i} {t} a = record {
+      holds = links_held (λ y _. omega (arith, held_put new n i y (omega (arith, n_few, g.many)) (g.beyond n (omega arith)), plus_add (both new (held tips)) i y, plus_add (held new) i y)) (a.holds (both new (held tips)) g.holds);
+      many = length-set new n (Some i) ∙ g.many;
+      real = real_set new n i g.real a.below;
+      beyond = λ u m. other u (omega arith) ∙ g.beyond u (omega arith);
       base = a.base ∙ g.base;
       top = a.top ∙ g.top;
-      old_tips = ap (λ (z : List (Option ℕ)). map tip_of z) a.tips ∙ g.old_tips;
-      modes = a.modes ∙ g.modes;
       room = omega (arith, a.room, g.room);
       young = λ y yl u e. ⊎_elim
           (λ (q : y ≡ i). rw (q, a.new_mode) (omega arith))
@@ -100,62 +78,71 @@ module _ (o : Tree) (preds : List ℕ) (x : Next o preds) (n : ℕ) (s : Tree) (
       layer = λ y yl u. a.layer y yl (off y yl u) ∙ g.layer y yl u;
       parent = λ y yl u. a.parent y yl (off y yl u) ∙ g.parent y yl u;
       mode = λ y yl u. a.mode y yl (off y yl u) ∙ g.mode y yl u;
-      reach = λ u ul k. ⊎_elim
-          (λ (e : u ≡ n). rw (e, here) a.below)
-          (λ (ne : u ≡ n → ⊥). rw (other u ne) (g.reach u (omega arith) k))
+      reach = λ u q m e. ⊎_elim
+          (λ (k : u ≡ n). (i, ap (tip_at (set new n (Some i))) k ∙ here))
+          (λ (ne : u ≡ n → ⊥). let f = g.reach u q (omega arith) e in (f.0, other u ne ∙ f.1))
           (cases_eq u n);
-      new_layer = λ u ul k. ⊎_elim
-          (λ (e : u ≡ n). rw (e, here) (a.new_layer ∙ g.top))
-          (λ (ne : u ≡ n → ⊥). let un : u < n = omega arith in
-          rw (other u ne) (a.layer (get_or new u 0) (g.reach u un k) (off_new u un k) ∙ g.new_layer u un k))
+      unreach = λ u e. ⊎_elim
+          (λ (k : u ≡ n). absurd (none_some (sym e ∙ ap (λ (v : ℕ). get_or preds v None) k ∙ is)))
+          (λ (ne : u ≡ n → ⊥). other u ne ∙ g.unreach u e)
           (cases_eq u n);
-      new_parent = λ u ul k. ⊎_elim
-          (λ (e : u ≡ n). rw (e, here) (a.new_parent ∙ p_is))
-          (λ (ne : u ≡ n → ⊥). let un : u < n = omega arith in
-          rw (other u ne) (a.parent (get_or new u 0) (g.reach u un k) (off_new u un k) ∙ g.new_parent u un k))
+      new_layer = λ u c e. each (λ v d. (at t.cells d).layer ≡ o.top) (a.new_layer ∙ g.top)
+          (λ v d q. a.layer d (g.real v d q) (off_new v d q) ∙ g.new_layer v d q) u c e;
+      new_parent = λ u c q r e f h. ⊎_elim
+          (λ (k : u ≡ n).
+          let ci : c ≡ i = same u c k e in
+          let pq : p ≡ q = let z : Some p ≡ Some q = sym is ∙ sym (ap (λ (v : ℕ). get_or preds v None) k) ∙ f in cc in
+          rw ci (a.new_parent r (ap (tip_at tips) pq ∙ h)))
+          (λ (ne : u ≡ n → ⊥). let e' = sym (other u ne) ∙ e in a.parent c (g.real u c e') (off_new u c e') ∙ g.new_parent u c q r e' f h)
           (cases_eq u n);
-      new_mode = λ u ul k. ⊎_elim
-          (λ (e : u ≡ n). rw (e, here) a.new_mode)
-          (λ (ne : u ≡ n → ⊥). let un : u < n = omega arith in
-          rw (other u ne) (a.mode (get_or new u 0) (g.reach u un k) (off_new u un k) ∙ g.new_mode u un k))
-          (cases_eq u n);
-      unreach = λ u ul k. ⊎_elim
-          (λ (e : u ≡ n). let k' : 32 ≤ get_or preds n 0 = rw e at k in absurd (omega arith))
-          (λ (ne : u ≡ n → ⊥). let un : u < n = omega arith in other u ne ∙ g.unreach u un k)
-          (cases_eq u n);
+      new_mode = λ u c e. each (λ v d. (at t.cells d).mode ≡ v) a.new_mode
+          (λ v d q. a.mode d (g.real v d q) (off_new v d q) ∙ g.new_mode v d q) u c e;
     }
       where
         off : (y : ℕ) → y < 1024 → 0 < (at o.cells y).refs → y ≢ i
         off y yl u q = let z : 0 < (at s.cells i).refs = rw q at (g.uses y yl u) in omega (arith, a.was)
 
-        off_new : (u : ℕ) → u < n → get_or preds u 0 < 32 → get_or new u 0 ≢ i
-        off_new u un k q = let z : 0 < (at s.cells i).refs = rw q at (new_used u (omega (arith, n_few)) (g.reach u un k)) in omega (arith, a.was)
+        here : tip_at (set new n (Some i)) n ≡ Some i
+        here = get_or-set_same new n (Some i) None (omega (arith, n_few, g.many))
 
-        here : get_or (set new n i) n 0 ≡ i
-        here = get_or-set_same new n i 0 (omega (arith, n_few, g.tips.many))
+        other : (u : ℕ) → u ≢ n → tip_at (set new n (Some i)) u ≡ tip_at new u
+        other u ne = get_or-set_other new n u (Some i) None ne
 
-        other : (u : ℕ) → u ≢ n → get_or (set new n i) u 0 ≡ get_or new u 0
-        other u ne = get_or-set_other new n u i 0 ne
+        off_new : (u c : ℕ) → tip_at new u ≡ Some c → c ≢ i
+        off_new u c e q =
+            let k : 0 < (at s.cells c).refs = omega (arith, g.holds.count c (g.real u c e), held_some new u c e) in
+            let z : 0 < (at s.cells i).refs = rw q at k in
+            omega (arith, a.was)
 
-pub sprout_none : (o : Tree) (preds : List ℕ) → Next o preds → (new : List ℕ) → Tips new 0 → Sprout o preds 0 o new
-sprout_none o preds x new b = record {
-  holds = tree_held (λ y yl. omega (arith, held_none new y (λ u ul q. omega (arith, b.beyond u ul (omega arith))))) x.valid.holds;
-  tips = b;
+        same : (u c : ℕ) → u ≡ n → tip_at (set new n (Some i)) u ≡ Some c → c ≡ i
+        same u c k e = let z : Some c ≡ Some i = sym e ∙ ap (tip_at (set new n (Some i))) k ∙ here in cc
+
+        -- what holds of i and of the earlier new tips holds of all
+        each : (P : ℕ → ℕ → Type 0) → P n i → ((v d : ℕ) → tip_at new v ≡ Some d → P v d) → (u c : ℕ) → tip_at (set new n (Some i)) u ≡ Some c → P u c
+        each P first rest u c e = ⊎_elim
+            (λ (k : u ≡ n). subst (λ (v : ℕ). P v c) (sym k) (subst (P n) (sym (same u c k e)) first))
+            (λ (ne : u ≡ n → ⊥). rest u c (sym (other u ne) ∙ e))
+            (cases_eq u n)
+
+pub sprout_none : {o : Tree} {tips preds : List (Option ℕ)} → Next o tips preds → Sprout o tips preds 0 o (replicate 32 None)
+sprout_none x = record {
+  holds = links_held (λ y _. omega (arith, held_none (replicate 32 None) y (λ u. no_tips 32 u y))) x.valid.holds;
+  many = length-replicate {A = Option ℕ} 32 None;
+  real = λ u c e. absurd (no_tips 32 u c e);
+  beyond = λ u _. blank_at 32 u;
   base = refl;
   top = refl;
-  old_tips = refl;
-  modes = refl;
   room = omega arith;
   young = λ y yl u e. absurd (omega (arith, x.valid.old y yl u, e));
   uses = λ y yl u. u;
   layer = λ y yl u. refl;
   parent = λ y yl u. refl;
   mode = λ y yl u. refl;
-  reach = λ u ul. absurd (omega arith);
-  new_layer = λ u ul. absurd (omega arith);
-  new_parent = λ u ul. absurd (omega arith);
-  new_mode = λ u ul. absurd (omega arith);
-  unreach = λ u ul. absurd (omega arith);
+  reach = λ u p m. absurd (omega arith);
+  unreach = λ u _. blank_at 32 u;
+  new_layer = λ u c e. absurd (no_tips 32 u c e);
+  new_parent = λ u c p q e. absurd (no_tips 32 u c e);
+  new_mode = λ u c e. absurd (no_tips 32 u c e);
 }
 
 -- the paths that a change elsewhere leaves
@@ -173,35 +160,19 @@ path_frame s h t cs ps ms (suc n) c l u e =
     rw (ms c l u, ps c l u, i) refl
 
 -- what the old tips hold beside the new ones
-pub holding : (o : Tree) (preds : List ℕ) (n : ℕ) (s : Tree) (new : List ℕ) → Sprout o preds n s new → Holds s (both (tips_of s) (held new))
-holding o preds n s new g = tree_held (λ y yl. omega (arith, ap (λ (z : List ℕ). held z y) g.old_tips)) g.holds
+pub holding : {o : Tree} {tips preds : List (Option ℕ)} {n : ℕ} {s : Tree} {new : List (Option ℕ)} → Sprout o tips preds n s new → Holds s (both tips (held new))
+holding g = links_held (λ y _. omega arith) g.holds
 
 -- the tree after `grow`
-module _ (o : Tree) (preds : List ℕ) (x : Next o preds) (s : Tree) (raw : List (Option ℕ)) (g : Sprout o preds (length preds) s (map tip_of raw)) (t : Tree) (d : Shed s t) (real : Real raw) (k : ℕ) (wide : k ≡ length preds) where
-  -- the new tips as numbers
-  abbrev new : List ℕ
-  new = map tip_of raw
-
-  -- the tree with the new tips
+module _ {o : Tree} {tips preds : List (Option ℕ)} (x : Next o tips preds) {s : Tree} {new : List (Option ℕ)} (g : Sprout o tips preds (length preds) s new) {t : Tree} (d : Shed s tips t) where
+  -- the tree with the new layer
   abbrev pub fresh : Tree
-  fresh = record { cells = t.cells; free = t.free; tips = raw; room = t.room; base = t.base; top = t.top + 1; width = t.width; first = t.first; modes = k }
-
-  held_by : Holds s (both (tips_of s) (held new))
-  held_by = holding o preds (length preds) s new g
+  fresh = record { cells = t.cells; free = t.free; base = t.base; top = t.top + 1; width = t.width; first = t.first }
 
   after : Holds t (held new)
-  after = d.holds (held new) held_by
+  after = d.holds (held new) (holding g)
 
-  lay : (y : ℕ) → y < 1024 → (at t.cells y).layer ≡ (at s.cells y).layer
-  lay = d.kept.same.layer
-
-  -- a tip is of a reachable mode
-  reached : (u : ℕ) → u < 32 → get_or new u 0 < 1024 → (u < length preds) × (get_or preds u 0 < 32)
-  reached u ul m =
-      let a : u < length preds = ⊎_elim (λ (k : u < length preds). k) (λ (k : length preds ≤ u). absurd (omega (arith, g.tips.beyond u ul k))) (cases_lt u (length preds)) in
-      (a, ⊎_elim (λ (k : get_or preds u 0 < 32). k) (λ (k : 32 ≤ get_or preds u 0). absurd (omega (arith, g.unreach u a k))) (cases_lt (get_or preds u 0) 32))
-
-  fresh_valid : Valid fresh
+  fresh_valid : Valid fresh new
   fresh_valid = record {
     holds = record {
       size = after.size;
@@ -220,57 +191,54 @@ module _ (o : Tree) (preds : List ℕ) (x : Next o preds) (s : Tree) (raw : List
       wide = after.wide;
       oldest = after.oldest;
     };
-    tips = subst (Tips new) (sym wide) g.tips;
-    few = omega (arith, x.many);
-    real = real;
-    newest = λ u ul m. let k = reached u ul m in omega (arith, lay (get_or new u 0) m, g.new_layer u k.0 k.1, g.top, d.top);
-    ends = λ u ul m. let k = reached u ul m in d.kept.same.mode (get_or new u 0) m ∙ g.new_mode u k.0 k.1;
+    many = g.many;
+    real = g.real;
+    newest = λ u c e. omega (arith, d.kept.same.layer c (g.real u c e), g.new_layer u c e, g.top, d.top);
+    ends = λ u c e. d.kept.same.mode c (g.real u c e) ∙ g.new_mode u c e;
     old = λ y yl u. omega (arith, after.shape.high y yl u);
     none = λ e. absurd (omega (arith, after.shape.span));
-    any = λ _ no_tip. let a = x.some in omega (arith, no_tip a.0 (omega (arith, a.1, x.many)), g.reach a.0 a.1 a.2);
+    any = λ _ no_tip. let a = x.some in let f = g.reach a.0 a.1 (tip_below preds a.0 a.1 a.2) a.2 in no_tip a.0 f.0 f.1;
   }
 
-  paths_more : (u : ℕ) → u < length preds → get_or preds u 0 < 32 → path_of fresh u ≡ path_of o (get_or preds u 0) ++ (u ∷ [])
-  paths_more u ul k =
-      let m = g.reach u ul k in
+  paths_more : (u p : ℕ) → get_or preds u None ≡ Some p → path_of fresh new u ≡ path_of o tips p ++ (u ∷ [])
+  paths_more u p is =
+      let f = g.reach u p (tip_below preds u p is) is in
+      let c = f.0 in
+      let m = g.real u c f.1 in
       let n = o.top - o.base in
       let e : (t.top + 1) - t.base ≡ suc n = omega (arith, d.top, g.top, d.base, g.base, x.valid.holds.shape.span) in
-      let c = tip_at o (get_or preds u 0) in
-      let q : (at t.cells (get_or new u 0)).parent ≡ c = d.kept.same.parent (get_or new u 0) m ∙ g.new_parent u ul k in
-      let r : (at t.cells (get_or new u 0)).mode ≡ u = d.kept.same.mode (get_or new u 0) m ∙ g.new_mode u ul k in
-      ap (λ (j : ℕ). path t.cells j (get_or new u 0)) e
-      ∙ ap (λ (y : ℕ). path t.cells n y ++ ((at t.cells (get_or new u 0)).mode ∷ [])) q
-      ∙ ap (λ (y : ℕ). path t.cells n c ++ (y ∷ [])) r
-      ∙ ap (λ (z : List ℕ). z ++ (u ∷ [])) (old_path (cases_lt o.base o.top))
+      let r : (at t.cells c).mode ≡ u = d.kept.same.mode c m ∙ g.new_mode u c f.1 in
+      path_is fresh new u c f.1
+      ∙ ap (λ (j : ℕ). path t.cells j c) e
+      ∙ ap (λ (y : ℕ). path t.cells n (at t.cells c).parent ++ (y ∷ [])) r
+      ∙ ap (λ (z : List ℕ). z ++ (u ∷ [])) (old_path c m f.1 (cases_lt o.base o.top))
     where
-      old_path : ((o.base < o.top) ⊎ (o.top ≤ o.base)) → path t.cells (o.top - o.base) (tip_at o (get_or preds u 0)) ≡ path_of o (get_or preds u 0)
-      old_path (inr z) =
+      old_path : (c : ℕ) → c < 1024 → tip_at new u ≡ Some c → ((o.base < o.top) ⊎ (o.top ≤ o.base)) → path t.cells (o.top - o.base) (at t.cells c).parent ≡ path_of o tips p
+      old_path c m k (inr z) =
           let e : o.top - o.base ≡ 0 = omega arith in
           rw e refl
-      old_path (inl z) =
-          let c = tip_at o (get_or preds u 0) in
-          let m = x.from u ul k z in
+      old_path c m k (inl z) =
+          let f = x.from u p is z in
+          let b = f.0 in
+          let bl = x.valid.real p b f.1 in
           let n = (o.top - o.base) - 1 in
           let e : o.top - o.base ≡ suc n = omega arith in
-          rw e (path_frame o (held (tips_of o)) x.valid.holds t.cells
+          let q : (at t.cells c).parent ≡ b = d.kept.same.parent c m ∙ g.new_parent u c p b k is f.1 in
+          ap (path t.cells (o.top - o.base)) q
+          ∙ ap (λ (j : ℕ). path t.cells j b) e
+          ∙ path_frame o (held tips) x.valid.holds t.cells
           (λ y yl w. d.kept.same.parent y yl ∙ g.parent y yl w)
           (λ y yl w. d.kept.same.mode y yl ∙ g.mode y yl w)
-          n c m (tip_used o x.valid (get_or preds u 0) k m) (omega (arith, x.valid.newest (get_or preds u 0) k m)))
+          n b bl (tip_used x.valid p b f.1) (omega (arith, x.valid.newest p b f.1))
+          ∙ sym (ap (λ (j : ℕ). path o.cells j b) e)
+          ∙ sym (path_is o tips p b f.1)
 
-  pub grown_all : Layered o preds fresh
+  pub grown_all : Layered o tips preds fresh new
   grown_all = record {
     valid = fresh_valid;
     base = d.base ∙ g.base;
     top = ap (λ (n : ℕ). n + 1) (d.top ∙ g.top);
-    tips = g.tips;
-    reach = g.reach;
+    reach = λ u p e. g.reach u p (tip_below preds u p e) e;
     unreach = g.unreach;
     paths = paths_more;
   }
-
--- a choice that was read
-pub from_some : (preds : List (Option ℕ)) (u x : ℕ) → u < length preds → get_or preds u None ≡ Some x → get_or (chosen preds) u 0 ≡ x
-from_some preds u x l e = get_or-map from_of preds u None 0 l ∙ ap from_of e
-
-pub from_none : (preds : List (Option ℕ)) (u : ℕ) → u < length preds → get_or preds u None ≡ None → get_or (chosen preds) u 0 ≡ 32
-from_none preds u l e = get_or-map from_of preds u None 0 l ∙ ap from_of e

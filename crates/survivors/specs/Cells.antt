@@ -1,5 +1,5 @@
 -- The cells of the tree as a list: how they are linked, and the modes that they stand for.
-use Rattle.std.specs.Prelude.{◌≡◌, ℕ, zero, suc, ◌+◌, ◌<◌, ◌≤◌, cond, ◌≢◌, List, [], ◌∷◌, ◌++◌, length, ◌==◌, nat_lt, slice_index, slice_index_or, slice_set}
+use Rattle.std.specs.Prelude.{if◌then◌else◌, ◌≡◌, ℕ, zero, suc, ◌+◌, ◌<◌, ◌≤◌, ◌≢◌, List, [], ◌∷◌, ◌++◌, length, ◌==◌, nat_lt, slice_index, slice_index_or, slice_set}
 use Rattle.survivors.specs.Sums.{tally}
 use Rattle.survivors.specs.declared.tree.Cell.{Cell}
 
@@ -16,13 +16,13 @@ abbrev pub path : List Cell → ℕ → ℕ → List ℕ
 path cs zero c = []
 path cs (suc m) c = path cs m (at cs c).parent ++ ((at cs c).mode ∷ [])
 
--- The cell above x: its parent, and 1024 in the oldest layer, base.
+-- The cell above x: its parent. For the oldest layer, base, 1024 stands for what is above all cells, so that one sum serves every layer.
 abbrev pub owner : List Cell → ℕ → ℕ → ℕ
-owner cs base x = cond ((at cs x).layer == base) 1024 (at cs x).parent
+owner cs base x = if (at cs x).layer == base then 1024 else (at cs x).parent
 
 -- The weight w x if x is in use and stands under o, else 0.
 abbrev pub share : (ℕ → ℕ) → List Cell → ℕ → ℕ → ℕ → ℕ
-share w cs base o x = cond (nat_lt 0 (at cs x).refs) (cond (owner cs base x == o) (w x) 0) 0
+share w cs base o x = if nat_lt 0 (at cs x).refs then (if owner cs base x == o then w x else 0) else 0
 
 -- The weights of the cells in use under o, together.
 abbrev pub under : (ℕ → ℕ) → List Cell → ℕ → ℕ → ℕ
@@ -38,11 +38,11 @@ place x = x
 
 -- How many cells are in use.
 abbrev pub in_use : List Cell → ℕ
-in_use cs = tally (λ x. cond (nat_lt 0 (at cs x).refs) 1 0) 1024
+in_use cs = tally (λ x. if nat_lt 0 (at cs x).refs then 1 else 0) 1024
 
 -- One reference more to the cell c.
 abbrev pub plus : (ℕ → ℕ) → ℕ → ℕ → ℕ
-plus held c x = cond (x == c) (held x + 1) (held x)
+plus held c x = if x == c then held x + 1 else held x
 
 -- The cells with other refs and heirs in the cell i.
 abbrev pub recount : List Cell → ℕ → ℕ → ℕ → List Cell
@@ -58,20 +58,19 @@ pub record Shape (cs : List Cell) (base top : ℕ) : Type 0 where
   pub small : (x : ℕ) → x < 1024 → 0 < (at cs x).refs → (at cs x).mode < 32
   pub lone : (x y : ℕ) → x < 1024 → y < 1024 → 0 < (at cs x).refs → 0 < (at cs y).refs → (at cs x).layer ≡ (at cs y).layer → (at cs x).mode ≡ (at cs y).mode → x ≡ y
 
--- The first room places of free are the cells that are not in use, each once.
-pub record Stack (cs : List Cell) (free : List ℕ) (room : ℕ) : Type 0 where
-  pub span : length free ≡ 1024
-  pub live : room + in_use cs ≡ 1024
-  pub below : (k : ℕ) → k < room → slice_index free k < 1024
-  pub empty : (k : ℕ) → k < room → (at cs (slice_index free k)).refs ≡ 0
-  pub apart : (j k : ℕ) → j < k → k < room → slice_index free j ≢ slice_index free k
+-- free lists the cells that are not in use, each once.
+pub record Stack (cs : List Cell) (free : List ℕ) : Type 0 where
+  pub live : length free + in_use cs ≡ 1024
+  pub below : (k : ℕ) → k < length free → slice_index free k < 1024
+  pub empty : (k : ℕ) → k < length free → (at cs (slice_index free k)).refs ≡ 0
+  pub apart : (j k : ℕ) → j < k → k < length free → slice_index free j ≢ slice_index free k
 
 -- The cells are linked, where held x references to the cell x come from outside: refs counts these and the cells below,
 -- heirs adds up the places of the cells below, and width and first do both for the oldest layer.
-pub record Links (cs : List Cell) (free : List ℕ) (room base top width first : ℕ) (held : ℕ → ℕ) : Type 0 where
+pub record Links (cs : List Cell) (free : List ℕ) (base top width first : ℕ) (held : ℕ → ℕ) : Type 0 where
   pub size : length cs ≡ 1024
   pub shape : Shape cs base top
-  pub stack : Stack cs free room
+  pub stack : Stack cs free
   pub count : (x : ℕ) → x < 1024 → (at cs x).refs ≡ under one cs base x + held x
   pub heir : (x : ℕ) → x < 1024 → 0 < (at cs x).refs → (at cs x).heirs ≡ under place cs base x
   pub wide : width ≡ under one cs base 1024

@@ -1,8 +1,8 @@
 -- The survivors as a caller sees them: which modes have tips, the paths that these stand for, and what each call makes of them.
-use Rattle.std.specs.Prelude.{◌≡◌, ℕ, ◌+◌, ◌-◌, ◌^◌, ◌<◌, ◌≤◌, true, List, [], ◌∷◌, ◌++◌, length, slice_index, is_some, Some, None, Option, slice_index_or}
+use Rattle.std.specs.Prelude.{◌≡◌, ℕ, ◌+◌, ◌-◌, ◌^◌, ◌<◌, ◌≤◌, List, [], ◌∷◌, ◌++◌, length, slice_index, IsSome, Some, None, Option, slice_index_or}
 use Rattle.viterbi.specs.Lists.{Counted, LongestShared}
 use Rattle.survivors.specs.Ring.{Written}
-use Rattle.survivors.specs.Trees.{path_of}
+use Rattle.survivors.specs.Trees.{path_of, tip_at}
 use Rattle.survivors.specs.declared.Survivors.{Survivors}
 
 -- How many readings were taken.
@@ -15,11 +15,11 @@ decided s = s.tree.base
 
 -- The mode u has a tip: some reading is undecided, and a path ends in u.
 abbrev pub HasTip : Survivors → ℕ → Type 0
-HasTip s u = is_some (slice_index_or s.tree.tips u None) ≡ true
+HasTip s u = IsSome (tip_at s.tips u)
 
 -- The undecided modes of the path to the mode u, oldest first.
 abbrev pub path_to : Survivors → ℕ → List ℕ
-path_to s u = path_of s.tree u
+path_to s u = path_of s.tree s.tips u
 
 -- p is the undecided part of the path of some tip.
 abbrev pub PathOf : Survivors → List ℕ → Type 0

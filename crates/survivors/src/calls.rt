@@ -11,7 +11,10 @@ impl Survivors {
         ensures { Blank result }
     {
         let tree = Tree::new();
-        Survivors { tree }
+        Survivors {
+            tree,
+            tips: [None; 32],
+        }
     }
 
     /// How many readings were taken.
@@ -32,7 +35,7 @@ impl Survivors {
     pub fn live(&self) -> usize
         ensures { Counted (OnPath self.now) result }
     {
-        1024 - self.tree.room
+        1024 - self.tree.free.len()
     }
 
     /// Takes one more reading: the mode u goes on from the mode preds[u], and is not reachable where that is None.
@@ -40,14 +43,20 @@ impl Survivors {
         requires { MayGrow self.old preds.now }
         ensures { Grown self.old preds.now self.new }
     {
-        self.tree.grow(preds);
+        self.tips = self.tree.grow(preds, &self.tips);
     }
 
     /// Decides what all paths share, from the oldest undecided reading on; the mode of the reading i goes to the place i mod 4,096 of the ring.
     pub fn settle(&mut self, ring: &mut [u8; 4096])
         ensures { Settled self.old ring.old self.new ring.new }
     {
-        self.tree.settle(ring);
+        'down: while self.tree.width == 1 {
+            let place = (self.tree.base % 4096) as usize;
+            ring[place] = self.tree.decide();
+            if self.tree.base == self.tree.top {
+                self.tips = [None; 32];
+            }
+        }
     }
 
     /// Decides the whole path to the mode `best`; where all is decided already, nothing happens.
@@ -56,7 +65,12 @@ impl Survivors {
         ensures { Finished self.old best ring.old self.new ring.new }
     {
         if self.tree.base < self.tree.top {
-            self.tree.finish(best as usize, ring);
+            let best = best as usize;
+            let tip = self.tips[best].take();
+            self.tree.shed(&self.tips);
+            self.tips = [None; 32];
+            self.tips[best] = tip;
+            self.settle(ring);
         }
     }
 
@@ -64,6 +78,7 @@ impl Survivors {
     pub fn clear(&mut self)
         ensures { Blank self.new }
     {
-        self.tree.clear();
+        self.tree.clear(&self.tips);
+        self.tips = [None; 32];
     }
 }

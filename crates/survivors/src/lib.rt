@@ -12,7 +12,9 @@ use tree::Tree;
 #[derive(Drop)]
 pub struct Survivors {
     tree: Tree,
-    ghost valid: { ∥ Valid tree ∥₁ },
+    /// For each mode the cell of the newest layer that its path ends in.
+    tips: [Option<u16>; 32],
+    ghost valid: { Valid tree tips },
 }
 
 #[cfg(test)]

@@ -1,15 +1,18 @@
-ghost use Rattle.std.specs.Prelude.{◌≡◌, ℕ, ◌<◌, ◌≤◌, map, length, Some, None, slice_index_or};
-ghost use Rattle.survivors.specs.Cells.{plus};
-ghost use Rattle.survivors.specs.Trees.{Apart, Attached, Cleared, Ended, Holds, Layered, Next, Ready, Real, Released, Settling, Shed, Sprout, Tips, Valid, both, chosen, tip_at, tip_of, tips_of};
+ghost use Rattle.std.specs.Prelude.{◌≡◌, ℕ, ◌+◌, ◌^◌, ◌<◌, length};
+ghost use Rattle.survivors.specs.Cells.{at, plus};
+ghost use Rattle.survivors.specs.Trees.{Attached, Cleared, Holds, Layered, Next, Ready, Real, Released, Shed, Sprout, Valid, both, without_root};
+
+use arrayvec::ArrayVec;
+use std::array;
 
 /// A mode at a reading, on the path of some tip.
-#[derive(Clone, Copy)]
+#[derive(Clone, Copy, PartialEq, Eq, Debug)]
 pub struct Cell {
     /// The reading's index in the log.
     pub layer: u32,
     /// The sum of the places of the cells below this one: with one such cell, its place.
     pub heirs: u32,
-    /// The place of the cell above this one; in the oldest layer it counts for nothing.
+    /// The place of the cell above this one. In the oldest layer it counts for nothing: there the cell above was decided, and its place is not taken out.
     pub parent: u16,
     /// How many cells below and tips refer to this one; 0 in a free cell.
     pub refs: u16,
@@ -24,18 +27,13 @@ pub const EMPTY: Cell = Cell {
     mode: 0,
 };
 
-// Stands for the tip of a mode that has none.
-const NO_CELL: u16 = 1024;
-
-/// The cells of the undecided readings, each below the one it goes on from, and a tip for each reachable mode.
+// Memory is fixed and there is no heap, so the cells are an array and refer to one another by places.
+/// The cells of the undecided readings, each below the one it goes on from.
 #[derive(Drop)]
 pub struct Tree {
     pub cells: [Cell; 1024],
-    /// The places of free cells: the first `room` of them.
-    pub free: [u16; 1024],
-    /// For each mode the cell of the newest layer that its path ends in.
-    pub tips: [Option<u16>; 32],
-    pub room: usize,
+    /// The places of the free cells.
+    pub free: ArrayVec<u16, 1024>,
     /// Readings decided: the oldest layer.
     pub base: u32,
     /// Readings taken: the next layer.
@@ -43,57 +41,48 @@ pub struct Tree {
     /// The number of cells in the oldest layer, and the sum of their places.
     pub width: u16,
     pub first: u32,
-    /// Only modes below this one can have tips.
-    pub modes: usize,
 }
 
 impl Tree {
     pub fn new() -> Self
         ensures { Cleared result }
     {
-        let mut free = [0u16; 1024];
-        for i in 0..1024usize {
-            free[i] = i as u16;
-        }
         Tree {
             cells: [EMPTY; 1024],
-            free,
-            tips: [None; 32],
-            room: 1024,
+            free: ArrayVec::from(array::from_fn(|i| i as u16)),
             base: 0,
             top: 0,
             width: 0,
             first: 0,
-            modes: 0,
         }
     }
 
-    // A new cell of `mode` in the newest layer, under `parent` (in the oldest layer: under nothing).
-    fn attach(&mut self, mode: u8, parent: u16) -> u16
+    // A new cell of `mode` in the newest layer, under `parent`, which only the oldest layer goes without.
+    fn attach(&mut self, mode: u8, parent: Option<u16>) -> u16
         requires { (h : ℕ → ℕ) × Ready self.old h mode parent }
         ensures { Attached self.old mode parent result self.new }
     {
-        self.room -= 1;
-        let i = self.free[self.room];
+        let i = self.free.pop().unwrap();
         self.cells[i as usize] = Cell {
             layer: self.top,
             heirs: 0,
-            parent,
+            parent: parent.unwrap_or(0),
             refs: 1,
             mode,
         };
-        if self.top == self.base {
-            self.width += 1;
-            self.first += i as u32;
-        } else {
-            let above = self.cells[parent as usize];
-            self.cells[parent as usize] = Cell {
-                layer: above.layer,
-                heirs: above.heirs + i as u32,
-                parent: above.parent,
-                refs: above.refs + 1,
-                mode: above.mode,
-            };
+        match parent {
+            Some(p) => {
+                let above = self.cells[p as usize];
+                self.cells[p as usize] = Cell {
+                    heirs: above.heirs + i as u32,
+                    refs: above.refs + 1,
+                    ..above
+                };
+            }
+            None => {
+                self.width += 1;
+                self.first += i as u32;
+            }
         }
         i
     }
@@ -104,139 +93,92 @@ impl Tree {
         requires real { cell < 1024 }
         ensures { Released self.old cell self.new }
     {
-        let mut c = cell as usize;
+        let mut c = cell;
         'up: loop {
-            let old = self.cells[c];
-            self.cells[c].refs = old.refs - 1;
+            let old = self.cells[c as usize];
+            self.cells[c as usize].refs = old.refs - 1;
             if old.refs > 1 {
                 return;
             }
-            self.free[self.room] = c as u16;
-            self.room += 1;
+            self.free.push(c);
             if old.layer == self.base {
                 self.width -= 1;
                 self.first -= c as u32;
                 return;
             }
-            let p = old.parent as usize;
-            self.cells[p].heirs -= c as u32;
-            c = p;
+            self.cells[old.parent as usize].heirs -= c as u32;
+            c = old.parent;
         }
     }
 
-    // Gives back the references of all tips.
-    fn shed(&mut self)
-        requires some { (h : ℕ → ℕ) × Holds self.old (both (tips_of self.old) h) }
-        requires tips { Tips (tips_of self.old) self.old.modes }
-        requires real { Real self.old.tips }
-        requires few { self.old.modes ≤ 32 }
-        ensures { Shed self.old self.new }
+    /// Gives back the references of the tips.
+    pub fn shed(&mut self, tips: &[Option<u16>; 32])
+        requires held { (h : ℕ → ℕ) × Holds self.old (both tips.now h) }
+        requires real { Real tips.now }
+        ensures { Shed self.old tips.now self.new }
     {
-        let k = self.modes;
-        for i in 0..k {
-            let tip = self.tips[i];
-            if let Some(c) = tip {
-                self.tips[i] = None;
-                self.release(c);
+        for tip in tips {
+            if let Some(cell) = *tip {
+                self.release(cell);
             }
         }
     }
 
-    // The tip of a mode, or NO_CELL.
-    fn tip(&self, u: usize) -> u16
-        requires mode { u < 32 }
-        requires tips { length self.now.tips ≡ 32 }
-        ensures { result ≡ tip_at self.now u }
+    // A cell of the new layer for each reachable mode. Answers the new layer's tips.
+    fn sprout(&mut self, preds: &[Option<u8>], tips: &[Option<u16>; 32]) -> [Option<u16>; 32]
+        requires { Next self.old tips.now preds.now }
+        ensures { Sprout self.old tips.now preds.now (length preds.now) self.new result }
     {
-        let tip = self.tips[u];
-        match tip {
-            Some(c) => c,
-            None => NO_CELL,
-        }
-    }
-
-    // A cell of the new layer for each reachable mode.
-    fn sprout(&mut self, preds: &[Option<u8>], tips: &mut [Option<u16>; 32])
-        requires next { Next self.old (chosen preds.now) }
-        requires modes { (u x : ℕ) → u < length preds.now → slice_index_or preds.now u None ≡ Some x → x < 32 }
-        requires blank { Tips (map tip_of tips.old) 0 }
-        requires real { Real tips.old }
-        ensures grows { Sprout self.old (chosen preds.now) (length (chosen preds.now)) self.new (map tip_of tips.new) }
-        ensures real { Real tips.new }
-        ensures raw { self.new.tips ≡ self.old.tips }
-    {
-        for u in 0..preds.len() {
-            let pred = preds[u];
-            if let Some(from) = pred {
-                let p = self.tip(from as usize);
-                let i = self.attach(u as u8, p);
-                tips[u] = Some(i);
+        let mut new = [None; 32];
+        for (u, pred) in preds.iter().enumerate() {
+            if let Some(from) = *pred {
+                let i = self.attach(u as u8, tips[from as usize]);
+                new[u] = Some(i);
             }
         }
+        new
     }
 
-    /// A new layer: the mode u goes on from the mode preds[u], and is not reachable where that is None.
-    pub fn grow(&mut self, preds: &[Option<u8>])
-        requires next { Next self.old (chosen preds.now) }
-        requires modes { (u x : ℕ) → u < length preds.now → slice_index_or preds.now u None ≡ Some x → x < 32 }
-        ensures { Layered self.old (chosen preds.now) self.new }
+    /// A new layer: the mode u goes on from the mode preds[u], and is not reachable where that is None. Answers its tips.
+    pub fn grow(&mut self, preds: &[Option<u8>], tips: &[Option<u16>; 32]) -> [Option<u16>; 32]
+        requires { Next self.old tips.now preds.now }
+        ensures { Layered self.old tips.now preds.now self.new result }
     {
-        let mut tips = [None; 32];
-        self.sprout(preds, &mut tips);
-        self.shed();
-        self.tips = tips;
-        self.modes = preds.len();
+        let new = self.sprout(preds, tips);
+        self.shed(tips);
         self.top += 1;
+        new
     }
 
-    /// Decides the oldest layer while it has one cell; its modes go into the ring.
-    pub fn settle(&mut self, ring: &mut [u8; 4096])
-        requires { Valid self.old }
-        ensures decided { Settling self.old ring.old self.new ring.new }
-        ensures most { self.new.base < self.new.top → Apart self.new }
+    /// Decides the oldest layer, which has one cell, and answers that cell's mode.
+    pub fn decide(&mut self) -> u8
+        requires cell { self.old.first < 1024 }
+        requires room { length self.old.free.items < 1024 }
+        requires later { self.old.base < self.old.top }
+        ensures mode { result ≡ (at self.old.cells self.old.first).mode }
+        ensures tree { self.new ≡ without_root self.old }
     {
-        'down: while self.width == 1 {
-            let r = self.first as usize;
-            let root = self.cells[r];
-            ring[(self.base % 4096) as usize] = root.mode;
-            self.cells[r].refs = 0;
-            self.free[self.room] = r as u16;
-            self.room += 1;
-            self.base += 1;
-            if self.base == self.top {
-                self.width = 0;
-                self.first = 0;
-                self.tips = [None; 32];
-            } else {
-                self.width = root.refs;
-                self.first = root.heirs;
-            }
+        let r = self.first as usize;
+        let root = self.cells[r];
+        self.cells[r].refs = 0;
+        self.free.push(r as u16);
+        self.base += 1;
+        if self.base == self.top {
+            self.width = 0;
+            self.first = 0;
+        } else {
+            self.width = root.refs;
+            self.first = root.heirs;
         }
+        root.mode
     }
-
-    /// Decides the whole path to the mode `best`; no cell is left in use.
-    pub fn finish(&mut self, best: usize, ring: &mut [u8; 4096])
-        requires valid { Valid self.old }
-        requires mode { best < self.old.modes }
-        requires tip { tip_at self.old best < 1024 }
-        ensures { Ended self.old best ring.old self.new ring.new }
-    {
-        let tip = self.tips[best];
-        self.tips[best] = None;
-        self.shed();
-        self.tips[best] = tip;
-        self.settle(ring);
-    }
-
-    /// Frees every cell, and counts readings from 0 again.
-    pub fn clear(&mut self)
-        requires { Valid self.old }
+    /// Gives back the references of the tips, which are all that there are, and counts readings from 0 again.
+    pub fn clear(&mut self, tips: &[Option<u16>; 32])
+        requires { Valid self.old tips.now }
         ensures { Cleared self.new }
     {
-        self.shed();
+        self.shed(tips);
         self.base = 0;
         self.top = 0;
-        self.width = 0;
-        self.first = 0;
     }
 }

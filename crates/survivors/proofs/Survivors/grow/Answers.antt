@@ -1,11 +1,11 @@
 use Rattle.survivors.proofs.Outcomes.{next_of, grown_of}
 use Rattle.survivors.proofs.Survivors.grow.Goals as goal
 
-pub grow-requires : goal.grow-requires
-grow-requires c = record { next = next_of c.args.self.now c.args.preds.now c.requires; modes = λ u x l. c.requires.mode u x }
+pub grow-self-requires : goal.grow-self-requires
+grow-self-requires c = next_of c.args.self.now c.args.preds.now c.requires
 
 pub invariant_of-self : goal.invariant_of-self
-invariant_of-self c = record { valid = ∣ c.grow.ensures.valid ∣₁ }
+invariant_of-self c = record { valid = c.grow-self.ensures.valid }
 
 pub returns : goal.returns
-returns c = grown_of c.args.self.now c.args.preds.now c.requires _ c.grow.ensures
+returns c = grown_of c.args.self.now c.args.preds.now _ c.grow-self.ensures

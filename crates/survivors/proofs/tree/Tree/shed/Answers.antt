@@ -1,46 +1,53 @@
-use Rattle.std.proofs.Common.{◌≡◌, ℕ, ◌+◌, ◌<◌, ◌≤◌, length, set, sym, subst, arith}
-use Rattle.survivors.specs.Trees.{Holds, Released, both, tip_at, tips_of}
-use Rattle.survivors.specs.Cells.{plus}
-use Rattle.survivors.specs.declared.tree.Tree.{Tree}
-use Rattle.survivors.proofs.Tips.{Shedding, shed_clear, shed_on, shed_skip, shed_all, cleared, read_some, read_none}
+use Rattle.std.proofs.Common.{ℕ, ◌+◌, drop, ◌∙◌, arith}
+use Rattle.survivors.specs.Trees.{Holds, both}
+use Rattle.survivors.proofs.Shares.{kept_kept, links_held}
+use Rattle.survivors.proofs.Tips.{from_none, from_some, past}
 use Rattle.survivors.proofs.tree.Tree.shed.Goals as goal
 use Rattle.survivors.proofs.tree.Tree.shed.Goals.{in-Some, in_default}
 
-short : (o s : Tree) (k i : ℕ) → Shedding o s k i → i < k → k ≤ 32 → i < length (tips_of s)
-short o s k i g l m = omega (arith, g.tips.many)
-
 pub release-requires : goal.release-requires
 release-requires c =
-    let o = c.args.self.now in
-    let s = c.loop-i.self in
-    let g = c.loop-i.invariant in
-    let i = c.loop-i.i in
-    let e : tip_at s i ≡ c.in-Some.c = read_some s.tips i c.in-Some.c (short o s c.args.self.now.modes i g c.loop-i-test.true c.requires.few) c.in-Some.is in
-    let h = both (set (tips_of s) i 1024) g.some.0 in
+    let i = c.loop-tip.invariant in
+    let k = c.loop-tip.tip-index in
+    let tips = c.args.tips.now in
     record {
-      held = (h, subst (λ (x : ℕ). Holds s (plus h x)) e (shed_clear o s c.args.self.now.modes i g c.loop-i-test.true c.requires.few g.some.0 g.some.1));
-      real = g.real i c.in-Some.c c.in-Some.is;
+      held = (both (drop (k + 1) tips) i.held.0, links_held (from_some tips i.held.0 k c.in-Some.cell (omega (arith, c.told-tips)) c.in-Some.is) i.held.1);
+      real = c.requires.real k c.in-Some.cell c.in-Some.is;
     }
 
-pub loop-i-preserved : goal.loop-i-preserved
-loop-i-preserved c =
-    let o = c.args.self.now in
-    let s = c.loop-i.self in
-    let g = c.loop-i.invariant in
-    let i = c.loop-i.i in
-    let P : Tree → Type 0 = λ z. Shedding o z c.args.self.now.modes (i + 1) in
-    let n = short o s c.args.self.now.modes i g c.loop-i-test.true c.requires.few in
+pub loop-tip-preserved : goal.loop-tip-preserved
+loop-tip-preserved c =
+    let i = c.loop-tip.invariant in
+    let k = c.loop-tip.tip-index in
+    let tips = c.args.tips.now in
     elim c.match-tip.branch [
       | in-Some w ↦
-          let e : tip_at s i ≡ w.in-Some.c = read_some s.tips i w.in-Some.c n w.in-Some.is in
-          subst P (sym w.self-is) (shed_on o s c.args.self.now.modes i g c.loop-i-test.true c.requires.few w.release.new.self
-          (subst (λ (x : ℕ). Released (cleared s i) x w.release.new.self) (sym e) w.release.ensures))
+          let r = w.release.ensures in
+          let on = λ (h : ℕ → ℕ) (t : Holds c.loop-tip.self (both (drop k tips) h)). r.holds (both (drop (k + 1) tips) h) (links_held (from_some tips h k w.in-Some.cell (omega (arith, c.told-tips)) w.in-Some.is) t) in
+          rw w.self-is (record {
+            held = (i.held.0, on i.held.0 i.held.1);
+            holds = λ h t. on h (i.holds h t);
+            kept = kept_kept _ _ _ i.kept r.kept;
+            base = r.base ∙ i.base;
+            top = r.top ∙ i.top;
+          })
       | in_default w ↦
-          subst P (sym w.self-is) (shed_skip o s c.args.self.now.modes i g c.loop-i-test.true c.requires.few (omega (arith, read_none s.tips i n w.in_default.is)))
+          let on = λ (h : ℕ → ℕ) (t : Holds c.loop-tip.self (both (drop k tips) h)). links_held (from_none tips h k (omega (arith, c.told-tips)) w.in_default.is) t in
+          rw w.self-is (record {
+            held = (i.held.0, on i.held.0 i.held.1);
+            holds = λ h t. on h (i.holds h t);
+            kept = i.kept;
+            base = i.base;
+            top = i.top;
+          })
     ]
 
 pub returns : goal.returns
 returns c =
-    let e : c.loop-i.i ≡ c.args.self.now.modes = omega arith in
-    let g : Shedding c.args.self.now c.loop-i.self c.args.self.now.modes c.args.self.now.modes = rw e at c.loop-i.invariant in
-    shed_all c.args.self.now c.loop-i.self c.args.self.now.modes g c.requires.few
+    let i = c.loop-tip.invariant in
+    record {
+      holds = λ h t. links_held (past c.args.tips.now h c.loop-tip.tip-index (omega (arith, c.told-tips))) (i.holds h t);
+      kept = i.kept;
+      base = i.base;
+      top = i.top;
+    }
