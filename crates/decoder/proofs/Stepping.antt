@@ -1,7 +1,5 @@
 -- What a step asks of the tree, and what it answers.
 use Rattle.std.proofs.Common.{◌≡◌, ℕ, ◌+◌, ◌<◌, ◌≤◌, Bool, true, false, List, [], ◌∷◌, ◌++◌, length, take, is_some, Some, None, Ok, Err, Option, sym, refl, ◌∙◌, subst, inl, inr, arith}
-use mathlib.Core.Logic.{∥∥₁_elim}
-use denote.Struct.Props.{props}
 use Rattle.std.proofs.lemmas.List.{length-take, get_or-take}
 use Rattle.fault.specs.declared.Fault.TheVariants.{TreeFull, NoReachableMode}
 use Rattle.cost.specs.declared.charge.Total.{Total}
@@ -22,12 +20,6 @@ use Rattle.decoder.specs.declared.Decoder.{Decoder}
 use Rattle.decoder.specs.Linked.{Linked}
 use Rattle.decoder.specs.Decoder.{CELLS, Stands, Ended, Totalled, Goes, Advanced, BackedAfter, Full, Unchanged, Stepped}
 use Rattle.decoder.proofs.Standing.{in_taken, GoesOn, first_goes, next_goes, stepped, path_ended}
-
--- what the ghost field gives
-pub linked_of : (d : Decoder) → Linked d.rows d.tree
-linked_of d u l h k =
-    let one : IsProp (HasTip d.tree u) = hlevel props in
-    ∥∥₁_elim d.linked one (λ f. f u l h k)
 
 -- rows that are kept are linked as before
 pub still_linked : (r s : Rows) (t : Survivors) → Kept r s → Linked r t → Linked s t

@@ -26,7 +26,7 @@ pub struct Decoder {
     rows: Rows,
     tree: Survivors,
     ring: [u8; 4096],
-    ghost linked: { ∥ Linked rows tree ∥₁ },
+    ghost linked: { Linked rows tree },
 }
 
 impl Decoder {

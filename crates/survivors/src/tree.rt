@@ -172,6 +172,7 @@ impl Tree {
         }
         root.mode
     }
+
     /// Gives back the references of the tips, which are all that there are, and counts readings from 0 again.
     pub fn clear(&mut self, tips: &[Option<u16>; 32])
         requires { Valid self.old tips.now }

@@ -1,5 +1,5 @@
 use Rattle.std.proofs.Common.{sym, refl, ◌∙◌, arith}
-use Rattle.decoder.proofs.Stepping.{linked_of, all_linked, ended, never_stuck}
+use Rattle.decoder.proofs.Stepping.{all_linked, ended, never_stuck}
 use Rattle.decoder.proofs.Standing.{empty_ended}
 use Rattle.decoder.proofs.Decoder.finish.Goals as goal
 
@@ -12,10 +12,10 @@ returns-in_default g c xs s = absurd (never_stuck (g.C.CostKind.kind c.args.cost
 pub finish-requires : goal.finish-requires
 finish-requires g c l =
     let b = c.in-Some.ensures.backed c.in-Some.best.from refl in
-    linked_of c.args.self.now c.in-Some.best.from b.0 b.1 l
+    c.args.self.now.linked c.in-Some.best.from b.0 b.1 l
 
 pub invariant_of-self : goal.invariant_of-self
-invariant_of-self g c = record { linked = ∣ all_linked c.args.self.now.rows c.finish.new.self (omega (arith, c.finish.ensures.all_decided, c.finish.ensures.none_taken)) ∣₁ }
+invariant_of-self g c = record { linked = all_linked c.args.self.now.rows c.finish.new.self (omega (arith, c.finish.ensures.all_decided, c.finish.ensures.none_taken)) }
 
 pub returns : goal.returns
 returns g c xs s = ended (g.C.CostKind.kind c.args.costs.now.kind.now) (g.M.Model.meaning c.args.costs.now.model.now) xs c.args.self.now _ c.in-Some.best s (λ e. c.if-taken-eq0.false (c.taken.ensures ∙ e)) c.in-Some.ensures.ends c.finish.ensures
