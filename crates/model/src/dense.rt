@@ -48,17 +48,17 @@ impl<'a> DenseTable<'a> {
     pub fn new(modes: usize, values: usize, numbers: &'a [u32]) -> DenseTable<'a>
         ensures { MadeOf (SoundTable modes values numbers.now) (dense modes values numbers.now) (⟦<DenseTable<'a> as ModeModel>⟧.meaning result) }
     {
-        match DenseTable::check(modes, values, numbers) {
-            Ok(()) => DenseTable {
-                modes,
-                values,
-                numbers,
-            },
-            Err(_) => DenseTable {
+        let Ok(()) = DenseTable::check(modes, values, numbers) else {
+            return DenseTable {
                 modes: 0,
                 values: 0,
                 numbers: &[],
-            },
+            };
+        };
+        DenseTable {
+            modes,
+            values,
+            numbers,
         }
     }
 

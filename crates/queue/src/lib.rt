@@ -9,6 +9,7 @@ use fault::Fault;
 /// A queue over a lent slice. It holds the first `len` elements of the slots from `head` on, round the end.
 #[derive(Debug, Drop)]
 pub struct Queue<'a, T: Copy> {
+    // The caller's memory: a queue owns none, so it stays a slice with two numbers.
     slots: &'a mut [T],
     head: usize,
     len: usize,

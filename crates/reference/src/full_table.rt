@@ -82,6 +82,7 @@ impl FullTable {
     }
 
     /// Takes one more reading, or refuses it with `false` where no mode would be reachable.
+    // A plain yes or no: there is one cause, and nothing to hand back.
     pub fn push<M: Model, C: CostKind>(
         &mut self,
         costs: &Costs<M, C>,

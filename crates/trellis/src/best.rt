@@ -37,15 +37,10 @@ pub fn better<C: CostKind>(
     let Some(total) = next else {
         return best;
     };
-    match best {
-        None => Some(Best { total, from }),
-        Some(b) => {
-            if kind.less(total, b.total) {
-                Some(Best { total, from })
-            } else {
-                best
-            }
-        }
+    if best.is_none_or(|b| kind.less(total, b.total)) {
+        Some(Best { total, from })
+    } else {
+        best
     }
 }
 
