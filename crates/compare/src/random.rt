@@ -43,6 +43,15 @@ impl Dice {
         (self.roll(values) & 0xff) as u8
     }
 
+    // Sixty readings.
+    fn readings(&mut self, heap: Global, values: u32) -> anyhow::Result<Vec<u8>> {
+        let mut readings = Vec::new(heap);
+        for _ in 0..60 {
+            readings.push(self.value(values))?;
+        }
+        Ok(readings)
+    }
+
     // A table with few penalties, of so many modes and values at most.
     fn table(&mut self, heap: Global, modes: u32, values: u32) -> anyhow::Result<Table>
         requires modes { (0 < modes) × (modes ≤ 8) }
@@ -122,10 +131,7 @@ pub(crate) fn long_logs(comparison: &mut Comparison) -> anyhow::Result<()> {
     let mut dice = Dice { state: 88675123 };
     for _ in 0..LONG_LOGS {
         let table = dice.table(comparison.heap(), 8, 4)?;
-        let mut readings = Vec::new(comparison.heap());
-        for _ in 0..60 {
-            readings.push(dice.value(table.values))?;
-        }
+        let readings = dice.readings(comparison.heap(), table.values)?;
         let model = &table.model();
         let kind = &Strict {};
         let strict = comparison.agrees(&Costs { model, kind }, &readings)?;

@@ -39,14 +39,16 @@ pub(crate) const SAW: Parameters = Parameters {
 // Prints a log and what the full table finds in it, and notes whether that is as expected.
 fn show<M: Model, C: CostKind>(
     comparison: &mut Comparison,
-    costs: &Costs<M, C>,
+    model: &M,
+    kind: &C,
     log: &Log,
 ) -> anyhow::Result<()> {
+    let costs = &Costs { model, kind };
     let heap = comparison.heap();
     let name = log.name;
     let readings = log.readings;
     println!(comparison.rt; "{name}: readings {readings:?}")?;
-    let mut table = FullTable::new(heap, costs.model.modes());
+    let mut table = FullTable::new(heap, model.modes());
     let mut found = Vec::new(heap);
     for (place, value) in readings.iter().enumerate() {
         if !table.push(costs, usize::from(*value))? {
@@ -58,9 +60,9 @@ fn show<M: Model, C: CostKind>(
     let decided: Vec<usize> = found.iter().map(|p| p.decided).collect(heap)?;
     let live: Vec<usize> = found.iter().map(|p| p.live).collect(heap)?;
     println!(comparison.rt; "  decided {decided:?}, live cells {live:?}")?;
-    let path = table.decode(costs.kind)?;
+    let path = table.decode(kind)?;
     let modes = path.modes.as_slice();
-    let total = costs.kind.shown(path.total);
+    let total = kind.shown(path.total);
     println!(comparison.rt; "  modes {modes:?}, total {total}")?;
     let engine = comparison.agrees(costs, readings)?;
     let same = if engine { "the same" } else { "NOT the same" };
@@ -85,14 +87,7 @@ pub(crate) fn saw_logs(comparison: &mut Comparison) -> anyhow::Result<()> {
             after(4, 2),
         ],
     };
-    show(
-        comparison,
-        &Costs {
-            model: &saw,
-            kind: &Strict {},
-        },
-        &cut,
-    )?;
+    show(comparison, &saw, &Strict {}, &cut)?;
     let empty = Log {
         name: "no readings under Strict",
         readings: &[],
@@ -100,14 +95,7 @@ pub(crate) fn saw_logs(comparison: &mut Comparison) -> anyhow::Result<()> {
         total: total(0, 0),
         after: &[],
     };
-    show(
-        comparison,
-        &Costs {
-            model: &saw,
-            kind: &Strict {},
-        },
-        &empty,
-    )
+    show(comparison, &saw, &Strict {}, &empty)
 }
 
 /// Logs with equally cheap paths: the lower mode at the latest difference wins.
@@ -125,14 +113,12 @@ pub(crate) fn tie_logs(comparison: &mut Comparison) -> anyhow::Result<()> {
         total: total(0, 2),
         after: &[after(0, 2), after(1, 2)],
     };
-    show(
-        comparison,
-        &Costs {
-            model: &even,
-            kind: &Strict {},
-        },
-        &free,
-    )?;
+    show(comparison, &even, &Strict {}, &free)?;
+    three_modes(comparison)
+}
+
+// Two ways to the end cost the same.
+fn three_modes(comparison: &mut Comparison) -> anyhow::Result<()> {
     let wide = Banded::new(Parameters {
         modes: 3,
         hop: 0,
@@ -147,26 +133,12 @@ pub(crate) fn tie_logs(comparison: &mut Comparison) -> anyhow::Result<()> {
         total: total(0, 5),
         after: &[after(0, 3), after(0, 5)],
     };
-    show(
-        comparison,
-        &Costs {
-            model: &wide,
-            kind: &Strict {},
-        },
-        &three,
-    )?;
+    show(comparison, &wide, &Strict {}, &three)?;
     let graded = Log {
         name: "three modes under Graded",
         ..three
     };
-    show(
-        comparison,
-        &Costs {
-            model: &wide,
-            kind: &Graded {},
-        },
-        &graded,
-    )
+    show(comparison, &wide, &Graded {}, &graded)
 }
 
 /// Logs of a table whose only passage has a breach.
@@ -179,14 +151,7 @@ pub(crate) fn breach_logs(comparison: &mut Comparison) -> anyhow::Result<()> {
         total: total(0, 0),
         after: &[after(1, 0)],
     };
-    show(
-        comparison,
-        &Costs {
-            model: &table,
-            kind: &Strict {},
-        },
-        &barred,
-    )?;
+    show(comparison, &table, &Strict {}, &barred)?;
     let counted = Log {
         name: "a breach under Graded",
         readings: &[0, 0],
@@ -194,12 +159,5 @@ pub(crate) fn breach_logs(comparison: &mut Comparison) -> anyhow::Result<()> {
         total: total(1, 0),
         after: &[after(1, 0), after(2, 0)],
     };
-    show(
-        comparison,
-        &Costs {
-            model: &table,
-            kind: &Graded {},
-        },
-        &counted,
-    )
+    show(comparison, &table, &Graded {}, &counted)
 }

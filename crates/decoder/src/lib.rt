@@ -21,7 +21,7 @@ const CELLS: usize = 1024;
 
 /// The readings taken of one log: the totals of all modes, the undecided parts of their cheapest paths, and the decided
 /// modes, where the mode of the reading i stands at the place i mod 4,096 of the ring.
-#[derive(Drop)]
+#[derive(Debug, Drop)]
 pub struct Decoder {
     rows: Rows,
     tree: Survivors,

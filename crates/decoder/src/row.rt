@@ -9,6 +9,7 @@ use trellis::Rows;
 
 /// Writes the row after the first reading or a later one, and the predecessor of each mode into `from`.
 /// Answers whether a mode is reachable.
+// The predecessors go into the caller's array, since memory is fixed.
 pub fn next_row<M: Model, C: CostKind>(
     rows: &mut Rows,
     costs: &Costs<M, C>,

@@ -8,7 +8,8 @@ use super::Model as ModeModel;
 use cost::Charge;
 use fault::Fault;
 
-/// The eight parameters of a banded model, in the order in which they are checked.
+/// The eight parameters of a banded model, in the order in which they are checked. The default ones are all 0, and pass
+/// no check.
 #[derive(Clone, Copy, PartialEq, Eq, Debug, Default)]
 pub struct Parameters {
     pub modes: u16,
@@ -43,6 +44,7 @@ fn first_broken(limits: &[Limit]) -> Result<(), Fault>
 {
     let broken = limits.iter().position(|limit| limit.value < limit.least
         || limit.most < limit.value);
+    // A match: with `map_or` the check finds no proof.
     match broken {
         Some(i) => Err(Fault::Parameter(i)),
         None => Ok(()),

@@ -1,7 +1,7 @@
 use cost::{CostKind, Total};
 
 /// What starts, passages and readings cost: the charges of a model under a kind of cost.
-#[derive(Drop)]
+#[derive(Debug, Drop)]
 pub struct Costs<'a, M, C> {
     pub model: &'a M,
     pub kind: &'a C,

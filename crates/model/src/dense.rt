@@ -20,13 +20,14 @@ pub struct DenseTable<'a> {
     ghost whole: { length numbers.now ≡ size modes values },
 }
 
+// Names the first entry that is too large.
 fn first_entry_above(numbers: &[u32]) -> Result<(), Fault>
     ensures { RefusesFirst (λ i. MOST_ENTRY < slice_index numbers.now i) TableEntry result }
 {
-    match numbers.iter().position(|n| *n > 655359) {
-        Some(i) => Err(Fault::TableEntry(i)),
-        None => Ok(()),
-    }
+    numbers
+        .iter()
+        .position(|n| *n > 655359)
+        .map_or(Ok(()), |i| Err(Fault::TableEntry(i)))
 }
 
 impl<'a> DenseTable<'a> {

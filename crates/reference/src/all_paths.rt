@@ -130,10 +130,11 @@ pub fn progress<M: Model, C: CostKind>(
     let paths = paths(heap, costs, readings)?;
     let decided = common(&paths, readings.len());
     let mut cells = BTreeSet::new(heap);
-    for path in paths.iter() {
-        for cell in path.iter().copied().enumerate().skip(decided) {
-            cells.insert(cell)?;
-        }
+    let undecided = paths
+        .iter()
+        .flat_map(|path| path.iter().copied().enumerate().skip(decided));
+    for cell in undecided {
+        cells.insert(cell)?;
     }
     let live = cells.len();
     Ok(Progress { decided, live })

@@ -8,14 +8,14 @@ use model::{Costs, Model};
 use std::alloc::{AllocError, Global};
 
 // The cheapest way to a mode: its total, and the mode that it comes from, which the first reading has not.
-#[derive(Clone, Copy)]
+#[derive(Clone, Copy, PartialEq, Eq, Debug)]
 struct Arrival {
     total: Total,
     before: Option<usize>,
 }
 
 /// For every accepted reading and every mode the cheapest way to it, or `None` where the mode is not reachable.
-#[derive(Drop)]
+#[derive(Debug, Drop)]
 pub struct FullTable {
     heap: Global,
     modes: usize,
@@ -49,21 +49,18 @@ impl FullTable {
         })
     }
 
-    // The way to a mode through the mode `before` of the last row.
+    // The total of a mode through the mode `before` of the last row, with that mode.
     fn through<M: Model, C: CostKind>(
         last: &[Option<Arrival>],
         costs: &Costs<M, C>,
         before: usize,
         mode: usize,
         value: usize,
-    ) -> Option<Arrival> {
+    ) -> Option<(usize, Total)> {
         let way = last.get(before).copied().flatten()?;
         let passed = costs.passage(way.total, before, mode)?;
         let total = costs.reading(passed, mode, value)?;
-        Some(Arrival {
-            total,
-            before: Some(before),
-        })
+        Some((before, total))
     }
 
     // The cheapest way to a mode at the next reading; of equal ones the one through the lowest mode.
@@ -79,6 +76,10 @@ impl FullTable {
         (0..self.modes)
             .filter_map(|before| FullTable::through(last, costs, before, mode, value))
             .reduce(|best, way| cheaper(costs.kind, best, way))
+            .map(|(before, total)| Arrival {
+                total,
+                before: Some(before),
+            })
     }
 
     /// Takes one more reading, or refuses it with `false` where no mode would be reachable.
@@ -129,26 +130,22 @@ impl FullTable {
         Ok(paths)
     }
 
-    // The end of the cheapest path, as a way from its last mode; of equal ones from the lowest.
-    fn end<C: CostKind>(&self, kind: &C) -> Option<Arrival> {
+    // The reachable mode of least total, of equal ones the lowest, and that total.
+    fn best_end<C: CostKind>(&self, kind: &C) -> Option<(usize, Total)> {
         self.rows
             .last()?
             .iter()
             .enumerate()
-            .filter_map(|(mode, arrival)| arrival.map(|way| Arrival {
-                total: way.total,
-                before: Some(mode),
-            }))
-            .reduce(|best, way| cheaper(kind, best, way))
+            .filter_map(|(mode, arrival)| arrival.map(|way| (mode, way.total)))
+            .reduce(|best, end| cheaper(kind, best, end))
     }
 
     /// The cheapest path of the log, with its total.
     pub fn decode<C: CostKind>(&self, kind: &C) -> Result<Decoded, AllocError>
         ensures { IfOk result (λ d. vec_len d.modes ≡ accepted self.now) }
     {
-        let end = self.end(kind);
-        let last = end.and_then(|way| way.before).unwrap_or(0);
-        let total = end.map_or_else(|| kind.zero(), |way| way.total);
+        // A log without readings has no end, and its path is empty from any mode.
+        let (last, total) = self.best_end(kind).unwrap_or((0, kind.zero()));
         let modes = self.path(last)?;
         Ok(Decoded { modes, total })
     }
@@ -158,23 +155,22 @@ impl FullTable {
         ensures { IfOk result (λ p. p.decided ≤ accepted self.now) }
     {
         let paths = self.paths()?;
-        let decided = self
-            .rows
-            .iter()
-            .enumerate()
-            .take_while(|(reading, _)| cells_at(&paths, self.modes, *reading) == 1)
+        let readings = self.rows.len();
+        let cells = |reading: usize| cells_at(&paths, self.modes, reading);
+        let decided = (0..readings)
+            .take_while(|&reading| cells(reading) == 1)
             .count();
-        let live = (decided..self.rows.len())
-            .map(|reading| cells_at(&paths, self.modes, reading))
+        let live = (decided..readings)
+            .map(cells)
             .fold(0usize, |live, cells| live.saturating_add(cells));
         Ok(Progress { decided, live })
     }
 }
 
-// The way of less total; of equal ones the first.
-fn cheaper<C: CostKind>(kind: &C, best: Arrival, way: Arrival) -> Arrival {
-    if kind.less(way.total, best.total) {
-        way
+// Of two modes with their totals the one of less total; of equal ones the first.
+fn cheaper<C: CostKind>(kind: &C, best: (usize, Total), next: (usize, Total)) -> (usize, Total) {
+    if kind.less(next.1, best.1) {
+        next
     } else {
         best
     }

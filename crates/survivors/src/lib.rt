@@ -6,14 +6,14 @@ ghost use Rattle.survivors.specs.Trees.{Valid};
 mod calls;
 mod tree;
 
-use tree::Tree;
+use tree::{Tips, Tree};
 
 /// The undecided parts of the paths to all reachable modes. Paths that begin alike share their cells.
-#[derive(Drop)]
+#[derive(Debug, Drop)]
 pub struct Survivors {
     tree: Tree,
-    /// For each mode the cell of the newest layer that its path ends in.
-    tips: [Option<u16>; 32],
+    // Beside the tree: its methods run while tree and tips do not fit together.
+    tips: Tips,
     ghost valid: { Valid tree tips },
 }
 

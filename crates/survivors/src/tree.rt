@@ -19,6 +19,7 @@ pub struct Cell {
     pub mode: u8,
 }
 
+// A constant, so that an array of it can be written down.
 pub const EMPTY: Cell = Cell {
     layer: 0,
     heirs: 0,
@@ -27,9 +28,12 @@ pub const EMPTY: Cell = Cell {
     mode: 0,
 };
 
+/// For each mode the cell of the newest layer that its path ends in.
+pub type Tips = [Option<u16>; 32];
+
 // Memory is fixed and there is no heap, so the cells are an array and refer to one another by places.
 /// The cells of the undecided readings, each below the one it goes on from.
-#[derive(Drop)]
+#[derive(Debug, Drop)]
 pub struct Tree {
     pub cells: [Cell; 1024],
     /// The places of the free cells.
@@ -112,7 +116,7 @@ impl Tree {
     }
 
     /// Gives back the references of the tips.
-    pub fn shed(&mut self, tips: &[Option<u16>; 32])
+    pub fn shed(&mut self, tips: &Tips)
         requires held { (h : ℕ → ℕ) × Holds self.old (both tips.now h) }
         requires real { Real tips.now }
         ensures { Shed self.old tips.now self.new }
@@ -125,7 +129,7 @@ impl Tree {
     }
 
     // A cell of the new layer for each reachable mode. Answers the new layer's tips.
-    fn sprout(&mut self, preds: &[Option<u8>], tips: &[Option<u16>; 32]) -> [Option<u16>; 32]
+    fn sprout(&mut self, preds: &[Option<u8>], tips: &Tips) -> Tips
         requires { Next self.old tips.now preds.now }
         ensures { Sprout self.old tips.now preds.now (length preds.now) self.new result }
     {
@@ -140,7 +144,7 @@ impl Tree {
     }
 
     /// A new layer: the mode u goes on from the mode preds[u], and is not reachable where that is None. Answers its tips.
-    pub fn grow(&mut self, preds: &[Option<u8>], tips: &[Option<u16>; 32]) -> [Option<u16>; 32]
+    pub fn grow(&mut self, preds: &[Option<u8>], tips: &Tips) -> Tips
         requires { Next self.old tips.now preds.now }
         ensures { Layered self.old tips.now preds.now self.new result }
     {
@@ -174,7 +178,7 @@ impl Tree {
     }
 
     /// Gives back the references of the tips, which are all that there are, and counts readings from 0 again.
-    pub fn clear(&mut self, tips: &[Option<u16>; 32])
+    pub fn clear(&mut self, tips: &Tips)
         requires { Valid self.old tips.now }
         ensures { Cleared self.new }
     {

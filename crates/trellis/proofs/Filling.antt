@@ -168,22 +168,9 @@ module _ (K : Kind) (M : Meaning) (r : Reading) (row₀ row : List (Option Total
   pub first : First K M r row from any
   first = record { stands = record { reached = first_reached; only = first_only }; chosen = first_chosen; tells = first_tells any f.tells }
 
--- a way has a mode that it comes from
-pub some_from : (b : Option Best) → is_some b ≡ is_some (best_from b)
-some_from None = refl
-some_from (Some b) = refl
-
-pub some_mark : (w : Option Total) (t : ℕ) → is_some w ≡ is_some (option_and_then (λ _. Some t) w)
-some_mark None t = refl
-some_mark (Some w) t = refl
-
 -- the same modes, counted otherwise
 pub filled_all : (P : ℕ → Option Total → Option ℕ → Type 0) (m n : ℕ) (row₀ row : List (Option Total)) (from₀ from : List (Option ℕ)) (any : Bool) → m ≡ n → Filled P m row₀ row from₀ from any → Filled P n row₀ row from₀ from any
 filled_all P m n row₀ row from₀ from any e f = subst (λ n. Filled P n row₀ row from₀ from any) e f
-
-both_some : (b : Option Best) → is_some (best_total b) ≡ is_some (best_from b)
-both_some None = refl
-both_some (Some b) = refl
 
 module _ (K : Kind) (M : Meaning) (n : ℕ) (old row₀ row : List (Option Total)) (r : Reading) (from₀ from : List (Option ℕ)) (any : Bool) (f : Filled (WrittenBy (WayIn K M n old r)) n row₀ row from₀ from any) where
   pub next_backed : AllBacked n old from

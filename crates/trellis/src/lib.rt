@@ -14,8 +14,9 @@ use model::{Costs, Model};
 use row::{Modes, Row, begin, enter, exchange, fill, least_in};
 
 /// Two rows of totals, one for each mode: the present one, and one to write the next into.
-#[derive(Drop)]
+#[derive(Debug, Drop)]
 pub struct Rows {
+    // One count for both rows and for the predecessors: with an `ArrayVec` for each, three lengths would have to agree.
     modes: Modes,
     present: Row,
     next: Row,

@@ -11,7 +11,7 @@ use model::{Costs, Model};
 pub type Row = [Option<Total>; 32];
 
 /// How many modes there are: at most 32.
-#[derive(Clone, Copy)]
+#[derive(Clone, Copy, PartialEq, Eq, Debug)]
 pub struct Modes {
     pub count: usize,
     ghost few: { count ≤ MODES },
@@ -28,6 +28,7 @@ fn least_by<C: CostKind, F: Fn(usize) -> Option<Total>>(
     ensures one { OneBy modes.count (F.post total) result }
 {
     let mut best = None;
+    // A mode is a number that model and row are asked about alike, so this goes over the numbers and not over a row.
     for s in 0..modes.count {
         best = better(kind, best, total(s), s as u8);
     }
@@ -75,7 +76,8 @@ pub fn begin<M: Model, C: CostKind>(costs: &Costs<M, C>, reading: usize, t: usiz
 }
 
 /// Writes the way into each mode, as `way` tells it: its total into `new`, and the mode that it comes from into `from`.
-/// Answers whether a mode is reachable; both arrays are written in place, whatever the answer is.
+/// Answers whether a mode is reachable.
+// The answer stands beside two arrays since memory is fixed: both are the caller's and are written in place.
 pub fn fill<F: Fn(usize) -> Option<Best>>(
     modes: Modes,
     new: &mut Row,
