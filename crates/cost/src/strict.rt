@@ -11,6 +11,7 @@ pub struct Strict {}
 impl CostKind for Strict {
     ghost kind = { λ _. strict };
 
+    // Each kind carries its own zero; that the two look alike is no rule.
     fn zero(&self) -> Total {
         Total {
             breaches: 0,

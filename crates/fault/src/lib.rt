@@ -97,6 +97,7 @@ impl Fault {
     pub fn layer(&self) -> Layer
         ensures { result ≡ (row self.now).layer }
     {
+        // By the numbers of the table, which go by layers: cases would name all 21 again.
         match self.number() {
             0..=10 => Layer::Session,
             11..=14 => Layer::Model,
