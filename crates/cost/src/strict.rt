@@ -11,7 +11,7 @@ pub struct Strict {}
 impl CostKind for Strict {
     ghost kind = { λ _. strict };
 
-    // Each kind carries its own zero; that the two look alike is no rule.
+    // Each kind has its own zero: sharing it would tie the kinds together for two lines.
     fn zero(&self) -> Total {
         Total {
             breaches: 0,

@@ -88,6 +88,7 @@ impl Decoder {
         if self.taken() == 0 {
             return costs.kind.zero();
         }
+        // After a reading some mode is reachable, so there is an end.
         let Some(best) = self.rows.least(costs) else {
             return costs.kind.zero();
         };

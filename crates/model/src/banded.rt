@@ -44,7 +44,7 @@ fn first_broken(limits: &[Limit]) -> Result<(), Fault>
 {
     let broken = limits.iter().position(|limit| limit.value < limit.least
         || limit.most < limit.value);
-    // A match: with `map_or` the check finds no proof.
+    // A match: with `map_or`, as for the entries of a table, the proof did not close here.
     match broken {
         Some(i) => Err(Fault::Parameter(i)),
         None => Ok(()),

@@ -10,6 +10,8 @@ pub struct Costs<'a, M, C> {
 impl<'a, M: super::Model, C: CostKind> Costs<'a, M, C> {
     ghost use Rattle.cost.specs.Kind.{Charged};
 
+    // Clauses name kind and meaning in full, here and above: a word of specs/ cannot read the members of a bound.
+
     /// The total of a start in a mode, or `None` where it is barred.
     pub fn start(&self, mode: usize) -> Option<Total>
         ensures { Charged (C.CostKind.kind self.now.kind.now) ((C.CostKind.kind self.now.kind.now).carried (C.CostKind.kind self.now.kind.now).zero) ((M.Model.meaning self.now.model.now).start mode) result }

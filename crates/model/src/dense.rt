@@ -20,8 +20,8 @@ pub struct DenseTable<'a> {
     ghost whole: { length numbers.now ≡ size modes values },
 }
 
-// Names the first entry that is too large. With the first parameter out of its range it shares the library's `position`;
-// element, test and fault differ.
+// Names the first entry that is too large.
+// It shares the library's `position` with `first_broken`; element, test and fault differ.
 fn first_entry_above(numbers: &[u32]) -> Result<(), Fault>
     ensures { RefusesFirst (λ i. MOST_ENTRY < slice_index numbers.now i) TableEntry result }
 {

@@ -11,7 +11,7 @@ use std::process::ExitCode;
 fn list(rt: &HostRuntime, file: &[u8]) -> anyhow::Result<Result<(), Fault>> {
     let mut reader = Reader::new(file);
     loop {
-        // All three answers in one match: the fault has to stay apart from a failed print, for `main` prints it as one line.
+        // No `?`: `main` prints the fault as one line, so it stays apart from a failed print.
         match reader.next() {
             Ok(Some(placed)) => println!(rt; "{placed}")?,
             Ok(None) => return Ok(Ok(())),

@@ -14,7 +14,7 @@ fn cost_of<M: Model, C: CostKind>(
     path: &[usize],
     end: Option<usize>,
 ) -> Option<Total> {
-    if end.is_some() && path.last().copied() != end {
+    if end.is_some_and(|end| path.last() != Some(&end)) {
         return None;
     }
     let mut total = costs.kind.zero();
@@ -63,6 +63,7 @@ fn cheapest<M: Model, C: CostKind>(
     let mut best: Option<Decoded> = None;
     for _ in 0..count(readings, modes) {
         if let Some(total) = cost_of(costs, readings, &path, end) {
+            // A comparison of its own: the two slow decoders are held against each other.
             if best
                 .as_ref()
                 .is_none_or(|kept| costs.kind.less(total, kept.total))

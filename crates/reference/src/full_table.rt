@@ -168,6 +168,7 @@ impl FullTable {
 }
 
 // Of two modes with their totals the one of less total; of equal ones the first.
+// A comparison of its own: the two slow decoders are held against each other.
 fn cheaper<C: CostKind>(kind: &C, best: (usize, Total), next: (usize, Total)) -> (usize, Total) {
     if kind.less(next.1, best.1) {
         next

@@ -1,5 +1,5 @@
-//! Two slow decoders, written straight from the rules, to compare the estimator's answers with. They share the kinds and
-//! the models, and no comparison, path or count.
+//! Two slow decoders, written straight from the rules, to compare the estimator's answers with. They share the kinds,
+//! the models, `Costs` and the types of their answers, and no comparison, path or count.
 #![tactic(auto)]
 
 pub mod all_paths;

@@ -19,7 +19,7 @@ pub struct Cell {
     pub mode: u8,
 }
 
-// A constant, so that an array of it can be written down.
+// A constant and no `Default`: all cells are built as one array of it.
 pub const EMPTY: Cell = Cell {
     layer: 0,
     heirs: 0,

@@ -28,7 +28,7 @@ fn least_by<C: CostKind, F: Fn(usize) -> Option<Total>>(
     ensures one { OneBy modes.count (F.post total) result }
 {
     let mut best = None;
-    // A mode is a number that model and row are asked about alike, so this goes over the numbers and not over a row.
+    // Model and row are asked about a mode by its number, so this goes over the numbers.
     for s in 0..modes.count {
         best = better(kind, best, total(s), s as u8);
     }
