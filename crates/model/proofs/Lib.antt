@@ -1,2 +1,3 @@
 pub mod Products
+pub mod Places
 pub mod Ranges

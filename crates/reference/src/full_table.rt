@@ -7,11 +7,11 @@ use cost::{CostKind, Total};
 use model::{Costs, Model};
 use std::alloc::{AllocError, Global};
 
-// The cheapest way to a mode: its total, and the mode that it comes from, which the first reading has not.
+// The cheapest way to a mode: its total, and the mode that it comes from, at the first reading the mode itself.
 #[derive(Clone, Copy, PartialEq, Eq, Debug)]
 struct Arrival {
     total: Total,
-    before: Option<usize>,
+    before: usize,
 }
 
 /// For every accepted reading and every mode the cheapest way to it, or `None` where the mode is not reachable.
@@ -45,7 +45,7 @@ impl FullTable {
         let total = costs.reading(started, mode, value)?;
         Some(Arrival {
             total,
-            before: None,
+            before: mode,
         })
     }
 
@@ -76,10 +76,7 @@ impl FullTable {
         (0..self.modes)
             .filter_map(|before| FullTable::through(last, costs, before, mode, value))
             .reduce(|best, way| cheaper(costs.kind, best, way))
-            .map(|(before, total)| Arrival {
-                total,
-                before: Some(before),
-            })
+            .map(|(before, total)| Arrival { total, before })
     }
 
     /// Takes one more reading, or refuses it with `false` where no mode would be reachable.
@@ -111,7 +108,7 @@ impl FullTable {
         for row in self.rows.iter().rev() {
             path.push(mode)?;
             let way = row.get(mode).copied().flatten();
-            mode = way.and_then(|way| way.before).unwrap_or(mode);
+            mode = way.map_or(mode, |way| way.before);
         }
         path.reverse();
         Ok(path)
@@ -155,14 +152,17 @@ impl FullTable {
         ensures { IfOk result (λ p. p.decided ≤ accepted self.now) }
     {
         let paths = self.paths()?;
-        let readings = self.rows.len();
-        let cells = |reading: usize| cells_at(&paths, self.modes, reading);
-        let decided = (0..readings)
-            .take_while(|&reading| cells(reading) == 1)
-            .count();
-        let live = (decided..readings)
-            .map(cells)
-            .fold(0usize, |live, cells| live.saturating_add(cells));
+        let mut decided: usize = 0;
+        let mut live: usize = 0;
+        // One pass, so that no reading is counted twice.
+        for reading in 0..self.rows.len() {
+            let cells = cells_at(&paths, self.modes, reading);
+            if live == 0 && cells == 1 {
+                decided += 1;
+            } else {
+                live = live.saturating_add(cells);
+            }
+        }
         Ok(Progress { decided, live })
     }
 }

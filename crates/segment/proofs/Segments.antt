@@ -143,6 +143,10 @@ differ_more [] s t f d = (f, tt)
 differ_more (r ∷ []) s t f d = (d.0, (f, tt))
 differ_more (r ∷ (q ∷ ss)) s t f d = (d.0, differ_more (q ∷ ss) s t f d.1)
 
+-- The last segment is no longer than the list.
+pub last_within : {ms : List ℕ} (ss : List Segment) (s : Segment) → SegmentsOf ms (ss ++ s ∷ []) → s.length ≤ length ms
+last_within ss s a = omega (arith, ap length a.whole, ap length (whole_last ss s), length-append (flat_map modes_of ss) (modes_of s), length-replicate s.length s.mode)
+
 -- No mode, the first mode, an equal mode, another mode.
 
 -- The segment of the n-th reading alone, and one reading more of a segment's mode.

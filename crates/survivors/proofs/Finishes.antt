@@ -3,7 +3,7 @@ use Rattle.std.proofs.Common.{◌≡◌, ℕ, suc, ◌+◌, ◌-◌, ◌<◌, �
 use Rattle.std.proofs.lemmas.Bool.{cases_eq, cases_lt}
 use Rattle.std.proofs.lemmas.List.{length-set, length-replicate, get_or-set_same, get_or-set_other}
 use Rattle.survivors.specs.Cells.{path, plus}
-use Rattle.survivors.specs.Trees.{Holds, Real, Shed, Valid, both, held, path_of, tip_at}
+use Rattle.survivors.specs.Trees.{Holds, NoneFrom, Real, Shed, Valid, both, held, path_of, tip_at}
 use Rattle.survivors.specs.declared.tree.Tree.{Tree}
 use Rattle.survivors.proofs.Shares.{links_held}
 use Rattle.survivors.proofs.Decides.{path_is, tip_used}
@@ -33,6 +33,12 @@ module _ {s : Tree} {tips : List (Option ℕ)} (r : Valid s tips) (best c : ℕ)
       (λ (ne : u ≡ best → ⊥). r.real u x (sym (get_or-set_other tips best u None None ne) ∙ q))
       (cases_eq u best)
 
+  pub cut_none : {n : ℕ} → NoneFrom n tips → NoneFrom n (set tips best None)
+  cut_none none u x l q = ⊎_elim
+      (λ (k : u ≡ best). none best c (omega arith) e)
+      (λ (ne : u ≡ best → ⊥). none u x l (sym (get_or-set_other tips best u None None ne) ∙ q))
+      (cases_eq u best)
+
   module _ {t : Tree} (d : Shed s (set tips best None) t) where
     -- best's tip alone
     abbrev pub alone : List (Option ℕ)
@@ -46,6 +52,9 @@ module _ {s : Tree} {tips : List (Option ℕ)} (r : Valid s tips) (best c : ℕ)
         (λ (k : u ≡ best). (k, let z : Some x ≡ Some c = sym q ∙ ap (tip_at alone) k ∙ here in cc))
         (λ (ne : u ≡ best → ⊥). absurd (no_tips 32 u x (sym (get_or-set_other (replicate 32 None) best u (Some c) None ne) ∙ q)))
         (cases_eq u best)
+
+    pub alone_none : {n : ℕ} → NoneFrom n tips → NoneFrom n alone
+    alone_none none u x l q = let k = (is_best u x q).0 in none best c (omega arith) e
 
     held_alone : (x : ℕ) → plus nil c x ≡ held alone x
     held_alone x = omega (arith, held_put (replicate 32 None) best c x (omega (arith, bl, length-replicate {A = Option ℕ} 32 None)) (blank_at 32 best), plus_add (held (replicate 32 None)) c x, held_none (replicate 32 None) x (λ u. no_tips 32 u x))

@@ -1,14 +1,14 @@
 -- One turn of `sprout`, and the tree after `grow`.
-use Rattle.std.proofs.Common.{◌≡◌, ℕ, zero, suc, ◌+◌, ◌-◌, ◌<◌, ◌≤◌, ◌≢◌, ◌⊎◌, List, [], ◌∷◌, ◌++◌, length, get_or, set, replicate, Some, None, Option, sym, refl, ap, ◌∙◌, subst, inl, inr, ⊎_elim, arith}
+use Rattle.std.proofs.Common.{◌≡◌, ℕ, zero, suc, ◌+◌, ◌-◌, ◌<◌, ◌≤◌, ◌≢◌, ◌⊎◌, List, [], ◌∷◌, ◌++◌, length, get_or, set, Some, None, Option, sym, refl, ap, ◌∙◌, subst, inl, inr, ⊎_elim, arith}
 use Rattle.std.proofs.lemmas.Bool.{cases_eq, cases_lt}
-use Rattle.std.proofs.lemmas.List.{get_or-set_same, get_or-set_other, length-set, length-replicate}
+use Rattle.std.proofs.lemmas.List.{get_or-set_same, get_or-set_other, length-set}
 use Rattle.survivors.specs.Cells.{at, one, owner, path, under}
-use Rattle.survivors.specs.Trees.{Attached, Holds, Layered, Next, Ready, Shed, Sprout, Valid, both, held, path_of, tip_at}
+use Rattle.survivors.specs.Trees.{Attached, Holds, Layered, Next, NoneFrom, Ready, Shed, Sprout, Valid, both, held, path_of, tip_at}
 use Rattle.survivors.specs.declared.tree.Cell.{Cell}
 use Rattle.survivors.specs.declared.tree.Tree.{Tree}
 use Rattle.survivors.proofs.Shares.{links_held, owner_parent, owner_used}
 use Rattle.survivors.proofs.Decides.{path_is, tip_used}
-use Rattle.survivors.proofs.Tips.{none_some, no_tips, blank_at, held_bound, held_none, held_put, held_some, plus_add, real_set, tip_below}
+use Rattle.survivors.proofs.Tips.{none_some, held_bound, held_none, held_put, held_some, plus_add, real_set, tip_below}
 
 module _ {o : Tree} {tips preds : List (Option ℕ)} (x : Next o tips preds) {n : ℕ} {s : Tree} {new : List (Option ℕ)} (g : Sprout o tips preds n s new) (l : n < length preds) where
   n_few : n < 32
@@ -124,12 +124,12 @@ module _ {o : Tree} {tips preds : List (Option ℕ)} (x : Next o tips preds) {n 
             (λ (ne : u ≡ n → ⊥). rest u c (sym (other u ne) ∙ e))
             (cases_eq u n)
 
-pub sprout_none : {o : Tree} {tips preds : List (Option ℕ)} → Next o tips preds → Sprout o tips preds 0 o (replicate 32 None)
-sprout_none x = record {
-  holds = links_held (λ y _. omega (arith, held_none (replicate 32 None) y (λ u. no_tips 32 u y))) x.valid.holds;
-  many = length-replicate {A = Option ℕ} 32 None;
-  real = λ u c e. absurd (no_tips 32 u c e);
-  beyond = λ u _. blank_at 32 u;
+pub sprout_none : {o : Tree} {tips preds new : List (Option ℕ)} → Next o tips preds → length new ≡ 32 → NoneFrom 0 new → Sprout o tips preds 0 o new
+sprout_none {new = new} x many none = record {
+  holds = links_held (λ y _. omega (arith, held_none new y (λ u. none u y (omega arith)))) x.valid.holds;
+  many = many;
+  real = λ u c e. absurd (none u c (omega arith) e);
+  beyond = λ u _. blank u;
   base = refl;
   top = refl;
   room = omega arith;
@@ -139,11 +139,18 @@ sprout_none x = record {
   parent = λ y yl u. refl;
   mode = λ y yl u. refl;
   reach = λ u p m. absurd (omega arith);
-  unreach = λ u _. blank_at 32 u;
-  new_layer = λ u c e. absurd (no_tips 32 u c e);
-  new_parent = λ u c p q e. absurd (no_tips 32 u c e);
-  new_mode = λ u c e. absurd (no_tips 32 u c e);
+  unreach = λ u _. blank u;
+  new_layer = λ u c e. absurd (none u c (omega arith) e);
+  new_parent = λ u c p q e. absurd (none u c (omega arith) e);
+  new_mode = λ u c e. absurd (none u c (omega arith) e);
 }
+  where
+    blank : (u : ℕ) → tip_at new u ≡ None
+    blank u = at (tip_at new u) refl
+      where
+        at : (o : Option ℕ) → tip_at new u ≡ o → tip_at new u ≡ None
+        at None e = e
+        at (Some c) e = absurd (none u c (omega arith) e)
 
 -- the paths that a change elsewhere leaves
 pub path_frame : (s : Tree) (h : ℕ → ℕ) → Holds s h → (cs : List Cell)

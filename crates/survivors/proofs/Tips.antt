@@ -1,10 +1,10 @@
 -- References that the tips hold.
 use Rattle.std.proofs.Common.{◌≡◌, ℕ, zero, suc, ◌+◌, ◌<◌, ◌≤◌, Bool, true, false, cond, eqb, ◌⊎◌, List, [], ◌∷◌, length, set, drop, replicate, Some, None, Option, sym, refl, ap, ◌∙◌, inl, inr, ⊎_elim, arith}
 use Rattle.std.proofs.lemmas.Bool.{cases_eq, cases_lt, ne_eqb}
-use Rattle.std.proofs.lemmas.List.{get_or-set_same, get_or-set_other, get_or_past, set_past, drop_all}
+use Rattle.std.proofs.lemmas.List.{get_or-set_same, get_or-set_other, get_or_past, get_or-drop, set_past}
 use Rattle.std.proofs.lemmas.List.Sums.{sum_by-set, sum_by-cons, sum_by-drop_more, count_by-le-length}
 use Rattle.survivors.specs.Cells.{plus}
-use Rattle.survivors.specs.Trees.{Real, both, held, is_cell, tip_at}
+use Rattle.survivors.specs.Trees.{NoneFrom, Real, both, held, is_cell, tip_at}
 use Rattle.survivors.proofs.Shares.{plus_here}
 
 pub none_some : {x : ℕ} → None ≡ Some x → ⊥
@@ -109,8 +109,12 @@ from_none tips h k l e x _ = omega (arith, held_on tips k x None l e)
 pub from_some : (tips : List (Option ℕ)) (h : ℕ → ℕ) (k c : ℕ) → k < length tips → tip_at tips k ≡ Some c → (x : ℕ) → x < 1024 → both (drop k tips) h x ≡ plus (both (drop (k + 1) tips) h) c x
 from_some tips h k c l e x _ = omega (arith, held_on tips k x (Some c) l e, plus_add (both (drop (k + 1) tips) h) c x)
 
-pub past : (tips : List (Option ℕ)) (h : ℕ → ℕ) (k : ℕ) → length tips ≤ k → (x : ℕ) → x < 1024 → both (drop k tips) h x ≡ h x
-past tips h k l x _ = omega (arith, held_nil (drop k tips) x (drop_all k tips l))
+pub past : (tips : List (Option ℕ)) (h : ℕ → ℕ) (k : ℕ) → NoneFrom k tips → (x : ℕ) → x < 1024 → both (drop k tips) h x ≡ h x
+past tips h k none x _ = omega (arith, held_none (drop k tips) x (λ u e. none (k + u) x (omega arith) (sym (get_or-drop k tips u None) ∙ e)))
+
+-- where all are blank, none has a tip
+pub blank_none : (m n : ℕ) → NoneFrom m (replicate n None)
+blank_none m n u c l e = no_tips n u c e
 
 pub real_set : (tips : List (Option ℕ)) (i c : ℕ) → Real tips → c < 1024 → Real (set tips i (Some c))
 real_set tips i c r b u d e = ⊎_elim

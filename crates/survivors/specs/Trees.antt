@@ -33,6 +33,10 @@ Holds s h = Links s.cells s.free.items s.base s.top s.width s.first h
 abbrev pub Real : List (Option ℕ) → Type 0
 Real tips = (u c : ℕ) → tip_at tips u ≡ Some c → c < 1024
 
+-- No mode from n on has a tip.
+abbrev pub NoneFrom : ℕ → List (Option ℕ) → Type 0
+NoneFrom n tips = (u c : ℕ) → n ≤ u → tip_at tips u ≡ Some c → ⊥
+
 -- The invariant between calls: the tips hold the tree. The tip of u is a cell of the newest layer and of the mode u;
 -- there are tips exactly while some reading is undecided.
 pub record Valid (s : Tree) (tips : List (Option ℕ)) : Type 0 where

@@ -14,6 +14,7 @@ impl Survivors {
         Survivors {
             tree,
             tips: [None; 32],
+            modes: 0,
         }
     }
 
@@ -43,7 +44,8 @@ impl Survivors {
         requires { MayGrow self.old preds.now }
         ensures { Grown self.old preds.now self.new }
     {
-        self.tips = self.tree.grow(preds, &self.tips);
+        self.tips = self.tree.grow(preds, &self.tips, self.modes);
+        self.modes = preds.len();
     }
 
     /// Decides what all paths share, from the oldest undecided reading on; the mode of the reading i goes to the place i mod 4,096 of the ring.
@@ -67,7 +69,7 @@ impl Survivors {
         if self.tree.base < self.tree.top {
             let best = best as usize;
             let tip = self.tips[best].take();
-            self.tree.shed(&self.tips);
+            self.tree.shed(&self.tips, self.modes);
             self.tips = [None; 32];
             self.tips[best] = tip;
             self.settle(ring);
@@ -78,7 +80,8 @@ impl Survivors {
     pub fn clear(&mut self)
         ensures { Blank self.new }
     {
-        self.tree.clear(&self.tips);
+        self.tree.clear(&self.tips, self.modes);
         self.tips = [None; 32];
+        self.modes = 0;
     }
 }

@@ -1,6 +1,6 @@
-ghost use Rattle.std.specs.Prelude.{◌≡◌, ℕ, ◌+◌, ◌^◌, ◌<◌, length};
+ghost use Rattle.std.specs.Prelude.{◌≡◌, ℕ, ◌+◌, ◌^◌, ◌<◌, ◌≤◌, length};
 ghost use Rattle.survivors.specs.Cells.{at, plus};
-ghost use Rattle.survivors.specs.Trees.{Attached, Cleared, Holds, Layered, Next, Ready, Real, Released, Shed, Sprout, Valid, both, without_root};
+ghost use Rattle.survivors.specs.Trees.{Attached, Cleared, Holds, Layered, Next, NoneFrom, Ready, Real, Released, Shed, Sprout, Valid, both, without_root};
 
 use arrayvec::ArrayVec;
 use std::array;
@@ -115,41 +115,46 @@ impl Tree {
         }
     }
 
-    /// Gives back the references of the tips.
-    pub fn shed(&mut self, tips: &Tips)
+    /// Gives back the references of the tips, which only modes below `modes` have.
+    pub fn shed(&mut self, tips: &Tips, modes: usize)
         requires held { (h : ℕ → ℕ) × Holds self.old (both tips.now h) }
         requires real { Real tips.now }
+        requires within { modes ≤ 32 }
+        requires none { NoneFrom modes tips.now }
         ensures { Shed self.old tips.now self.new }
     {
-        for tip in tips {
+        for tip in &tips[..modes] {
             if let Some(cell) = *tip {
                 self.release(cell);
             }
         }
     }
 
-    // A cell of the new layer for each reachable mode. Answers the new layer's tips.
-    fn sprout(&mut self, preds: &[Option<u8>], tips: &Tips) -> Tips
-        requires { Next self.old tips.now preds.now }
-        ensures { Sprout self.old tips.now preds.now (length preds.now) self.new result }
+    // A cell of the new layer for each reachable mode. The new layer's tips are written in place, so that they are copied once.
+    fn sprout(&mut self, preds: &[Option<u8>], tips: &Tips, new: &mut Tips)
+        requires next { Next self.old tips.now preds.now }
+        requires blank { NoneFrom 0 new.old }
+        ensures { Sprout self.old tips.now preds.now (length preds.now) self.new new.new }
     {
-        let mut new = [None; 32];
         for (u, pred) in preds.iter().enumerate() {
             if let Some(from) = *pred {
                 let i = self.attach(u as u8, tips[from as usize]);
                 new[u] = Some(i);
             }
         }
-        new
     }
 
     /// A new layer: the mode u goes on from the mode preds[u], and is not reachable where that is None. Answers its tips.
-    pub fn grow(&mut self, preds: &[Option<u8>], tips: &Tips) -> Tips
-        requires { Next self.old tips.now preds.now }
-        ensures { Layered self.old tips.now preds.now self.new result }
+    pub fn grow(&mut self, preds: &[Option<u8>], tips: &Tips, modes: usize) -> Tips
+        requires next { Next self.old tips.now preds.now }
+        requires within { modes ≤ 32 }
+        requires none { NoneFrom modes tips.now }
+        ensures layered { Layered self.old tips.now preds.now self.new result }
+        ensures none { NoneFrom (length preds.now) result }
     {
-        let new = self.sprout(preds, tips);
-        self.shed(tips);
+        let mut new = [None; 32];
+        self.sprout(preds, tips, &mut new);
+        self.shed(tips, modes);
         self.top += 1;
         new
     }
@@ -178,11 +183,13 @@ impl Tree {
     }
 
     /// Gives back the references of the tips, which are all that there are, and counts readings from 0 again.
-    pub fn clear(&mut self, tips: &Tips)
-        requires { Valid self.old tips.now }
+    pub fn clear(&mut self, tips: &Tips, modes: usize)
+        requires valid { Valid self.old tips.now }
+        requires within { modes ≤ 32 }
+        requires none { NoneFrom modes tips.now }
         ensures { Cleared self.new }
     {
-        self.shed(tips);
+        self.shed(tips, modes);
         self.base = 0;
         self.top = 0;
     }

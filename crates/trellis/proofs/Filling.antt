@@ -1,6 +1,6 @@
 -- A row that is written mode by mode.
-use Rattle.std.proofs.Common.{◌≡◌, ℕ, ◌+◌, ◌-◌, ◌<◌, Bool, true, false, ◌||◌, ◌⊎◌, ◌↔◌, List, [], ◌∷◌, ◌++◌, length, drop, get_or, set, is_some, Some, None, MatchBool, Option, sym, refl, ap, ◌∙◌, subst, inl, inr, add-one, arith, option_and_then}
-use Rattle.std.proofs.lemmas.List.{get_or-set_same, get_or-set_other, get_or-drop, length-drop, ext_get_or}
+use Rattle.std.proofs.Common.{◌≡◌, ℕ, ◌+◌, ◌<◌, Bool, true, false, ◌||◌, ◌⊎◌, ◌↔◌, List, [], ◌∷◌, ◌++◌, length, get_or, set, is_some, Some, None, MatchBool, Option, sym, refl, ap, ◌∙◌, subst, inl, inr, add-one, arith, option_and_then}
+use Rattle.std.proofs.lemmas.List.{get_or-set_same, get_or-set_other}
 use Rattle.std.proofs.lemmas.Option.{none-some, same_Some}
 use Rattle.cost.specs.declared.charge.Total.{Total}
 use Rattle.cost.specs.Kind.{Kind, carried_of}
@@ -180,7 +180,3 @@ module _ (K : Kind) (M : Meaning) (n : ℕ) (old row₀ row : List (Option Total
 pub one_more : (P : ℕ → Option Total → Type 0) (s : ℕ) (b r : Option Best) (a : Option Total) → P s a → OneOf b a s r → OneBy s P b → OneBy (s + 1) P r
 one_more P s b r a told (inl e) one u i = let k = one u (sym (ap best_from e) ∙ i) in (omega (arith, k.0), k.1)
 one_more P s b r a told (inr e) one u i = let k = same_Some s u (sym e.1 ∙ i) in (omega (arith, k), (a, subst (λ s. P s a) k told, e.0))
-
--- lists that are alike beyond n have the same rest from n on
-pub rest_same : (n : ℕ) (xs ys : List (Option Total)) → length xs ≡ length ys → Beyond n xs ys → drop n xs ≡ drop n ys
-rest_same n xs ys many same = ext_get_or None (drop n xs) (drop n ys) (length-drop n xs ∙ ap (λ m. m - n) many ∙ sym (length-drop n ys)) (λ i l. get_or-drop n xs i None ∙ same (n + i) (omega arith) ∙ sym (get_or-drop n ys i None))

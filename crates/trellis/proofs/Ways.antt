@@ -1,5 +1,5 @@
 -- One more charge on a cost, and the better of two, as they are carried.
-use Rattle.std.proofs.Common.{rules, IsTrue, MatchOption, if◌then◌else◌, Bool, ◌≡◌, ℕ, ◌+◌, true, false, ◌⊎◌, [], ◌∷◌, ◌++◌, Some, None, Option, sym, refl, ap, ◌∙◌, subst, inl, inr, arith, option_and_then}
+use Rattle.std.proofs.Common.{◌≡◌, ℕ, ◌+◌, true, false, ◌⊎◌, [], ◌∷◌, ◌++◌, Some, None, Option, sym, refl, ap, ◌∙◌, subst, inl, inr, arith, option_and_then}
 use Rattle.cost.specs.declared.charge.Charge.{Charge}
 use Rattle.cost.specs.declared.charge.Total.{Total}
 use Rattle.cost.specs.Kind.{Kind, sum, Carries, carried_of, Charged, Compared}
@@ -70,7 +70,7 @@ module _ (K : Kind) where
     less_not : (c d : K.Cost) → K.Less d c → K.Less c d → ⊥
     less_not c d h k = K.irreflexive c (K.transitive c d c k h)
 
-    won : Compared K t b.total true → Better K old next s (Some (best t s))
+    pub won : Compared K t b.total true → Better K old next s (Some (best t s))
     won less = both _ (λ c d x y. at c d y (K.compare c d) (less d c y x))
       where
         at : (c d : K.Cost) → Carries K t d → (m : K.Less c d ⊎ (c ≡ d) ⊎ K.Less d c) → K.Less d c → best t s ≡ best (K.carried (chosen_of K (c, b.from) (d, s) m).0) (chosen_of K (c, b.from) (d, s) m).1
@@ -78,21 +78,10 @@ module _ (K : Kind) where
         at c d y (inr (inl k)) h = absurd (K.irreflexive c (subst (λ z. K.Less z c) (sym k) h))
         at c d y (inr (inr k)) h = λ i. best (y.same i) s
 
-    kept : Compared K t b.total false → Better K old next s (Some b)
+    pub kept : Compared K t b.total false → Better K old next s (Some b)
     kept less = both b (λ c d x y. at c d x (K.compare c d) (less d c y x))
       where
         at : (c d : K.Cost) → Carries K b.total c → (m : K.Less c d ⊎ (c ≡ d) ⊎ K.Less d c) → (K.Less d c → ⊥) → b ≡ best (K.carried (chosen_of K (c, b.from) (d, s) m).0) (chosen_of K (c, b.from) (d, s) m).1
         at c d x (inl k) h = λ i. best (x.same i) b.from
         at c d x (inr (inl k)) h = λ i. best (x.same i) b.from
         at c d x (inr (inr k)) h = absurd (h k)
-
-  none_yet : (t : Total) (s : ℕ) (next : Option Total) → next ≡ Some t → Better K None next s (Some (best t s))
-  none_yet t s next is None o wr or eb en = ap (λ a. option_and_then (λ t. Some (best t s)) a) (sym is ∙ en) ∙ carried_way_lem o s
-  none_yet t s next is (Some y) o wr or eb en = absurd (none-some (best (K.carried y.0) y.1) eb)
-
-  -- the next total wins where there is none yet, and where it is less
-  pub chosen : (old : Option Best) (t : Total) (s : ℕ) (next : Option Total) (P : Best → Type 0) (w : Bool) → next ≡ Some t → MatchOption old (IsTrue w) P → ((b : Best) → P b → Compared K t b.total w) → Better K old next s (if w then Some (best t s) else old)
-  chosen None t s next P true is m less = none_yet t s next is
-  chosen None t s next P false is m less = search rules
-  chosen (Some b) t s next P true is m less = won b t s (Some b) next refl is (less b m)
-  chosen (Some b) t s next P false is m less = kept b t s (Some b) next refl is (less b m)

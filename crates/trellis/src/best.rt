@@ -1,8 +1,7 @@
 ghost use Rattle.std.specs.Prelude.{◌≡◌, ℕ, true, is_some, Some};
 ghost use Rattle.trellis.specs.Carried.{Through, Better, Arrived, OneOf, best_from};
 
-use cost::{CostKind, Total};
-use model::{Costs, Model};
+use cost::{Charge, CostKind, Total};
 
 /// The best way into a mode: its total, and the mode that it comes from.
 #[derive(Clone, Copy, PartialEq, Eq, Debug)]
@@ -11,17 +10,14 @@ pub struct Best {
     pub from: u8,
 }
 
-/// The total of a mode with the passage from it to another, if there is one.
-pub fn through<M: Model, C: CostKind>(
-    costs: &Costs<M, C>,
-    total: Option<Total>,
-    from: usize,
-    to: usize,
-) -> Option<Total>
-    ensures carried { Through (C.CostKind.kind costs.now.kind.now) total ((M.Model.meaning costs.now.model.now).passage from to) result }
+/// The total with one more charge, if there is one.
+// The caller asks for the charge in every case, here and in `arrived`: asked for only where there is a total, it makes the
+// loops over the modes slower.
+pub fn through<C: CostKind>(kind: &C, total: Option<Total>, passage: Charge) -> Option<Total>
+    ensures carried { Through (C.CostKind.kind kind.now) total passage result }
     ensures some { is_some result ≡ true → is_some total ≡ true }
 {
-    costs.passage(total?, from, to)
+    kind.charged(total?, passage)
 }
 
 /// The better of the best so far and the total of the next mode, which loses a tie.
@@ -37,24 +33,19 @@ pub fn better<C: CostKind>(
     let Some(total) = next else {
         return best;
     };
-    if best.is_none_or(|b| kind.less(total, b.total)) {
-        Some(Best { total, from })
-    } else {
-        best
+    // One match: with `is_none_or` the best so far is copied at each mode, which made the loops over the modes three times as slow.
+    match best {
+        Some(b) if !kind.less(total, b.total) => best,
+        _ => Some(Best { total, from }),
     }
 }
 
-/// The best way into a mode, with the reading there, if there is one.
-pub fn arrived<M: Model, C: CostKind>(
-    costs: &Costs<M, C>,
-    best: Option<Best>,
-    mode: usize,
-    reading: usize,
-) -> Option<Best>
-    ensures carried { Arrived (C.CostKind.kind costs.now.kind.now) best ((M.Model.meaning costs.now.model.now).reading mode reading) result }
+/// The best way with the charge of the reading added.
+pub fn arrived<C: CostKind>(kind: &C, best: Option<Best>, reading: Charge) -> Option<Best>
+    ensures carried { Arrived (C.CostKind.kind kind.now) best reading result }
     ensures same { (s : ℕ) → best_from result ≡ Some s → best_from best ≡ Some s }
 {
     let Best { total, from } = best?;
-    let total = costs.reading(total, mode, reading)?;
+    let total = kind.charged(total, reading)?;
     Some(Best { total, from })
 }

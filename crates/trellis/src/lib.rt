@@ -1,9 +1,9 @@
 //! One reading of the trellis: from the totals of all modes to the next totals, and the predecessor of each mode.
 #![tactic(auto)]
 
-ghost use Rattle.std.specs.Prelude.{◌≡◌, drop, min};
+ghost use Rattle.std.specs.Prelude.{◌≡◌, min};
 ghost use Rattle.trellis.specs.Size.{MODES};
-ghost use Rattle.trellis.specs.Rows.{Backed, Advances, First, Ends, Marked, AllBacked, AllThemselves, WayIn};
+ghost use Rattle.trellis.specs.Rows.{Backed, Advances, First, Ends, Marked, AllBacked, AllThemselves};
 
 mod best;
 mod row;
@@ -11,16 +11,17 @@ mod row;
 pub use best::Best;
 use cost::CostKind;
 use model::{Costs, Model};
-use row::{Modes, Row, begin, enter, exchange, fill, least_in};
+use row::{Modes, Row, first_row, least_in, next_row};
 
 /// Two rows of totals, one for each mode: the present one, and one to write the next into.
 #[derive(Debug, Drop)]
 pub struct Rows {
     // One count for both rows and for the predecessors: with an `ArrayVec` for each, three lengths would have to agree.
     modes: Modes,
-    present: Row,
-    next: Row,
-    ghost same_beyond: { drop modes.count present ≡ drop modes.count next },
+    even: Row,
+    odd: Row,
+    // Whether the odd row is the present one: so a turn moves no total, whatever the number of modes.
+    turned: bool,
 }
 
 impl Rows {
@@ -32,8 +33,9 @@ impl Rows {
     {
         Rows {
             modes: Modes { count: 0 },
-            present: [None; 32],
-            next: [None; 32],
+            even: [None; 32],
+            odd: [None; 32],
+            turned: false,
         }
     }
 
@@ -43,8 +45,6 @@ impl Rows {
     {
         let count = count.min(32);
         self.modes = Modes { count };
-        self.present = [None; 32];
-        self.next = [None; 32];
     }
 
     /// The number of modes.
@@ -67,8 +67,11 @@ impl Rows {
         ensures themselves { AllThemselves (modes self.old) from.new }
         ensures kept { Kept self.old self.new }
     {
-        let way = |t| begin(costs, reading, t);
-        fill(self.modes, &mut self.next, from, way)
+        let modes = self.modes;
+        if self.turned {
+            return first_row(costs, modes, reading, &mut self.even, from);
+        }
+        first_row(costs, modes, reading, &mut self.odd, from)
     }
 
     /// Writes the row after one more reading, and the predecessor of each mode into `from`.
@@ -85,18 +88,17 @@ impl Rows {
         ensures kept { Kept self.old self.new }
     {
         let modes = self.modes;
-        let present = &self.present;
-        let way = |t: usize| -> Option<Best>
-            ensures { WayIn (C.CostKind.kind costs.entry.now.kind.now) (M.Model.meaning costs.entry.now.model.now) modes.count present.entry.now reading t result }
-        { enter(costs, modes, present, reading, t) };
-        fill(modes, &mut self.next, from, way)
+        if self.turned {
+            return next_row(costs, modes, &self.odd, reading, &mut self.even, from);
+        }
+        next_row(costs, modes, &self.even, reading, &mut self.odd, from)
     }
 
     /// The row that was written last is now the present one, and the other way round.
     pub fn turn(&mut self)
         ensures { Turned self.old self.new }
     {
-        exchange(self.modes, &mut self.present, &mut self.next);
+        self.turned = !self.turned;
     }
 
     /// The last mode of the cheapest path of the log, with its total; `None` if no mode is reachable.
@@ -104,6 +106,9 @@ impl Rows {
         ensures ends { Ends (C.CostKind.kind costs.now.kind.now) (M.Model.meaning costs.now.model.now) (modes self.now) (present self.now) result }
         ensures backed { Backed (modes self.now) (present self.now) result }
     {
-        least_in(costs, self.modes, &self.present)
+        if self.turned {
+            return least_in(costs, self.modes, &self.odd);
+        }
+        least_in(costs, self.modes, &self.even)
     }
 }

@@ -1,6 +1,6 @@
-ghost use Rattle.std.specs.Prelude.{◌≡◌, ℕ, ◌<◌, ◌≤◌, drop};
+ghost use Rattle.std.specs.Prelude.{◌≡◌, ℕ, ◌<◌, ◌≤◌};
 ghost use Rattle.trellis.specs.Size.{MODES};
-ghost use Rattle.trellis.specs.Rows.{LeastBy, OneBy, WrittenBy, Into, WayIn, Backed, BegunBy, Filled, Ends};
+ghost use Rattle.trellis.specs.Rows.{LeastBy, OneBy, WrittenBy, Into, WayIn, Backed, BegunBy, Filled, Ends, Advances, First, Marked, AllBacked, AllThemselves, Beyond};
 ghost use Rattle.trellis.specs.Carried.{best_total, best_from};
 
 use super::best::{Best, arrived, better, through};
@@ -45,11 +45,15 @@ fn into<M: Model, C: CostKind>(
     ensures least { Into (C.CostKind.kind costs.now.kind.now) (M.Model.meaning costs.now.model.now) modes.count old.now t modes.count result }
     ensures backed { Backed modes.count old.now result }
 {
-    least_by(costs.kind, modes, |s| through(costs, old[s], s, t))
+    least_by(
+        costs.kind,
+        modes,
+        |s| through(costs.kind, old[s], costs.model.passage(s, t)),
+    )
 }
 
 /// The best way into mode `t` at a reading.
-pub fn enter<M: Model, C: CostKind>(
+fn enter<M: Model, C: CostKind>(
     costs: &Costs<M, C>,
     modes: Modes,
     old: &Row,
@@ -59,16 +63,18 @@ pub fn enter<M: Model, C: CostKind>(
     ensures { WayIn (C.CostKind.kind costs.now.kind.now) (M.Model.meaning costs.now.model.now) modes.count old.now reading t result }
 {
     let best = into(costs, modes, old, t);
-    arrived(costs, best, t, reading)
+    arrived(costs.kind, best, costs.model.reading(t, reading))
 }
 
 /// The first reading in mode `t`, which comes from itself.
-pub fn begin<M: Model, C: CostKind>(costs: &Costs<M, C>, reading: usize, t: usize) -> Option<Best>
+fn begin<M: Model, C: CostKind>(costs: &Costs<M, C>, reading: usize, t: usize) -> Option<Best>
     requires { t < MODES }
     ensures { BegunBy (C.CostKind.kind costs.now.kind.now) (M.Model.meaning costs.now.model.now) reading t (best_total result) (best_from result) }
 {
-    let started = costs.start(t)?;
-    let total = costs.reading(started, t, reading)?;
+    let started = costs.kind.charged(costs.kind.zero(), costs.model.start(t))?;
+    let total = costs
+        .kind
+        .charged(started, costs.model.reading(t, reading))?;
     Some(Best {
         total,
         from: t as u8,
@@ -78,7 +84,7 @@ pub fn begin<M: Model, C: CostKind>(costs: &Costs<M, C>, reading: usize, t: usiz
 /// Writes the way into each mode, as `way` tells it: its total into `new`, and the mode that it comes from into `from`.
 /// Answers whether a mode is reachable.
 // The answer stands beside two arrays since memory is fixed: both are the caller's and are written in place.
-pub fn fill<F: Fn(usize) -> Option<Best>>(
+fn fill<F: Fn(usize) -> Option<Best>>(
     modes: Modes,
     new: &mut Row,
     from: &mut [Option<u8>; 32],
@@ -86,7 +92,6 @@ pub fn fill<F: Fn(usize) -> Option<Best>>(
 ) -> bool
     requires { (t : ℕ) → t < modes.count → F.pre way t }
     ensures filled { Filled (WrittenBy (F.post way)) modes.count new.old new.new from.old from.new result }
-    ensures rest { drop modes.count new.new ≡ drop modes.count new.old }
 {
     let mut any = false;
     // By index: of arrays that two `iter_mut` in a `zip` write, a proof knows nothing.
@@ -99,19 +104,50 @@ pub fn fill<F: Fn(usize) -> Option<Best>>(
     any
 }
 
+/// Writes the row after the first reading into `new`, and into `from` each reachable mode as its own predecessor.
+/// Answers whether a mode is reachable.
+pub fn first_row<M: Model, C: CostKind>(
+    costs: &Costs<M, C>,
+    modes: Modes,
+    reading: usize,
+    new: &mut Row,
+    from: &mut [Option<u8>; 32],
+) -> bool
+    ensures first { modes.count ≡ (M.Model.meaning costs.now.model.now).modes → First (C.CostKind.kind costs.now.kind.now) (M.Model.meaning costs.now.model.now) reading new.new from.new result }
+    ensures marked { Marked modes.count new.new from.new result }
+    ensures themselves { AllThemselves modes.count from.new }
+    ensures beyond { Beyond modes.count new.new new.old }
+    ensures beyond_from { Beyond modes.count from.new from.old }
+{
+    fill(modes, new, from, |t| begin(costs, reading, t))
+}
+
+/// From the row `old`, writes the row after one more reading into `new`, and the predecessor of each mode into `from`.
+/// Answers whether a mode is reachable.
+pub fn next_row<M: Model, C: CostKind>(
+    costs: &Costs<M, C>,
+    modes: Modes,
+    old: &Row,
+    reading: usize,
+    new: &mut Row,
+    from: &mut [Option<u8>; 32],
+) -> bool
+    ensures next { Advances (C.CostKind.kind costs.now.kind.now) (M.Model.meaning costs.now.model.now) modes.count old.now reading new.new from.new result }
+    ensures marked { Marked modes.count new.new from.new result }
+    ensures backed { AllBacked modes.count old.now from.new }
+    ensures beyond { Beyond modes.count new.new new.old }
+    ensures beyond_from { Beyond modes.count from.new from.old }
+{
+    let way = |t: usize| -> Option<Best>
+        ensures { WayIn (C.CostKind.kind costs.entry.now.kind.now) (M.Model.meaning costs.entry.now.model.now) modes.count old.entry.now reading t result }
+    { enter(costs, modes, old, reading, t) };
+    fill(modes, new, from, way)
+}
+
 /// The last mode of the cheapest path of the log, with its total; `None` if no mode is reachable.
 pub fn least_in<M: Model, C: CostKind>(costs: &Costs<M, C>, modes: Modes, row: &Row) -> Option<Best>
     ensures ends { Ends (C.CostKind.kind costs.now.kind.now) (M.Model.meaning costs.now.model.now) modes.count row.now result }
     ensures backed { Backed modes.count row.now result }
 {
     least_by(costs.kind, modes, |s| row[s])
-}
-
-/// Exchanges what two rows have of the modes.
-pub fn exchange(modes: Modes, a: &mut Row, b: &mut Row)
-    requires { drop modes.count a.old ≡ drop modes.count b.old }
-    ensures first { a.new ≡ b.old }
-    ensures second { b.new ≡ a.old }
-{
-    a[..modes.count].swap_with_slice(&mut b[..modes.count]);
 }

@@ -9,13 +9,18 @@ pub returns-in_err-started : goal.returns-in_err-started
 returns-in_err-started g c =
     let K = g.C.CostKind.kind c.args.costs.now.kind.now in
     let M = g.M.Model.meaning c.args.costs.now.model.now in
-    subst (λ b. BegunBy K M c.args.reading c.args.t (best_total b) (best_from b)) (sym c.from_residual.ensures) (begun K M _ _ _ _ c.in_err-started.ensures (through_none K _), refl)
+    subst (λ b. BegunBy K M c.args.reading c.args.t (best_total b) (best_from b)) (sym c.from_residual.ensures) (begun K M c.args.reading c.args.t _ _ (rw (c.zero.ensures, c.start.ensures) at c.in_err-started.ensures) (through_none K _), refl)
 
 pub returns-in_err-total : goal.returns-in_err-total
 returns-in_err-total g c =
     let K = g.C.CostKind.kind c.args.costs.now.kind.now in
     let M = g.M.Model.meaning c.args.costs.now.model.now in
-    subst (λ b. BegunBy K M c.args.reading c.args.t (best_total b) (best_from b)) (sym c.from_residual-in_err-total.ensures) (begun K M _ _ _ _ c.in_ok-started.ensures (through K _ _ _ _ refl c.in_err-total.ensures), refl)
+    subst (λ b. BegunBy K M c.args.reading c.args.t (best_total b) (best_from b)) (sym c.from_residual-in_err-total.ensures) (begun K M c.args.reading c.args.t _ _ (rw (c.zero.ensures, c.start.ensures) at c.in_ok-started.ensures) (through K _ _ _ _ refl (rw c.reading.ensures at c.in_err-total.ensures)), refl)
 
 pub returns : goal.returns
-returns g c = (begun (g.C.CostKind.kind c.args.costs.now.kind.now) (g.M.Model.meaning c.args.costs.now.model.now) c.args.reading c.args.t _ _ c.in_ok-started.ensures (through _ _ _ _ _ refl c.in_ok-total.ensures), refl)
+returns g c =
+    let K = g.C.CostKind.kind c.args.costs.now.kind.now in
+    let M = g.M.Model.meaning c.args.costs.now.model.now in (
+      begun K M c.args.reading c.args.t _ _ (rw (c.zero.ensures, c.start.ensures) at c.in_ok-started.ensures) (through K _ _ _ _ refl (rw c.reading.ensures at c.in_ok-total.ensures)),
+      refl,
+    )

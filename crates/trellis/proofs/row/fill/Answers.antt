@@ -1,7 +1,7 @@
-use Rattle.std.proofs.Common.{rules, ◌≡◌, ◌<◌, is_some, sym, ◌∙◌, arith}
+use Rattle.std.proofs.Common.{rules, ◌≡◌, ◌<◌, is_some, ◌∙◌, arith}
 use Rattle.std.proofs.lemmas.List.{length-set}
 use Rattle.trellis.specs.Size.{MODES}
-use Rattle.trellis.proofs.Filling.{filled_more, filled_none, filled_all, rest_same}
+use Rattle.trellis.proofs.Filling.{filled_more, filled_none, filled_all}
 use Rattle.trellis.proofs.row.fill.Goals as goal
 
 pub loop-t-init : goal.loop-t-init
@@ -23,8 +23,5 @@ loop-t-preserved g c =
       }),
     )
 
-pub returns-clause-filled : goal.returns-clause-filled
-returns-clause-filled g c = filled_all _ _ _ _ _ _ _ _ (omega arith) c.loop-t.invariant.2
-
-pub returns-clause-rest : goal.returns-clause-rest
-returns-clause-rest g c = rest_same _ _ _ (c.loop-t.invariant.0 ∙ sym c.told-new) (filled_all _ _ _ _ _ _ _ _ (omega arith) c.loop-t.invariant.2).beyond
+pub returns : goal.returns
+returns g c = record { filled = filled_all _ _ _ _ _ _ _ _ (omega arith) c.loop-t.invariant.2 }
