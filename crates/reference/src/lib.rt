@@ -1,6 +1,6 @@
-//! Two slow decoders, written straight from the rules, to compare the estimator's answers with. They share no
-//! code with it: the estimator takes a model and a kind out of `Costs`, and only the decoders here ask it for totals. With each
-//! other they share the kinds, the models, `Costs` and the types of their answers, and no comparison, path or count.
+//! Two slow decoders, written straight from the rules, to compare the estimator's answers with. They share no code with it:
+//! the estimator asks kinds and models themselves, and only the decoders here ask `Costs` for totals. With each other they
+//! share that and the types of their answers, and no comparison, path or count.
 #![tactic(auto)]
 
 pub mod all_paths;

@@ -1,4 +1,4 @@
-ghost use Rattle.std.specs.Prelude.{◌≡◌, ℕ, ◌+◌, ◌^◌, ◌<◌, ◌≤◌, length};
+ghost use Rattle.std.specs.Prelude.{◌≡◌, ℕ, ◌+◌, ◌<◌, ◌≤◌, length};
 ghost use Rattle.survivors.specs.Cells.{at, plus};
 ghost use Rattle.survivors.specs.Trees.{Attached, Cleared, Holds, Layered, Next, NoneFrom, Ready, Real, Released, Shed, Sprout, Valid, both, without_root};
 

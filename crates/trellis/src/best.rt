@@ -33,7 +33,7 @@ pub fn better<C: CostKind>(
     let Some(total) = next else {
         return best;
     };
-    // One match: with `is_none_or` the best so far is copied at each mode, which made the loops over the modes three times as slow.
+    // One match: with `is_none_or` the best so far is copied at each mode, which made the loops over the modes much slower.
     match best {
         Some(b) if !kind.less(total, b.total) => best,
         _ => Some(Best { total, from }),

@@ -68,6 +68,7 @@ impl Rows {
         ensures kept { Kept self.old self.new }
     {
         let modes = self.modes;
+        // A branch for each row, here, in `next` and in `least`: one is read and the other written, as the flag says.
         if self.turned {
             return first_row(costs, modes, reading, &mut self.even, from);
         }
